@@ -1,0 +1,9 @@
+pub mod AnyPiece
+pub mod CellRead
+pub mod CellsRead
+pub mod CellsWritten
+pub mod OnePage
+pub mod OneSpelling
+pub mod Parts
+pub mod SlotsRead
+pub mod Unbroken

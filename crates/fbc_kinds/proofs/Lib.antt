@@ -1,0 +1,21 @@
+pub mod AnyBelow
+pub mod EditLimits
+pub mod EditsKept
+pub mod HeaderLaws
+pub mod HeaderReading
+pub mod HeaderRules
+pub mod HeaderUnbroken
+pub mod Heads
+pub mod InventoryLaws
+pub mod InventoryRules
+pub mod Names
+pub mod Numbers
+pub mod Pieces
+pub mod Roles
+pub mod Runs
+pub mod ShapeReading
+pub mod Sizes
+pub mod Tests
+pub mod TipLaws
+pub mod TipRules
+mod Zeros

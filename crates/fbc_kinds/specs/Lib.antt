@@ -1,0 +1,17 @@
+pub mod Chain
+pub mod DataSpelling
+pub mod Edits
+pub mod Head
+pub mod HeaderSpelling
+pub mod InventorySpelling
+pub mod Limits
+pub mod Lost
+pub mod Machine
+pub mod Meaning
+pub mod Padding
+pub mod PointerSpelling
+pub mod Reach
+pub mod RuleText
+pub mod Sound
+pub mod TipSpelling
+pub mod View

@@ -1,0 +1,102 @@
+//! Edits of pointer pages and of data pages.
+
+ghost use Rattle.std.specs.Prelude.{◌≡◌, ◌<◌, length};
+ghost use Rattle.fbc_kinds.specs.DataSpelling.{empty_cell};
+ghost use Rattle.fbc_kinds.specs.Edits.{HasCellNumbers, IsShape, Tried, cell_cleared, cell_put, is_version, slot_named, suits, value_length};
+
+use crate::padded::Value;
+use crate::pages::{Cell, Flag, Page};
+use crate::shapes::Shape;
+
+/// Puts a page number into a slot, 0 for none.
+pub(super) fn name(slot: u32, number: u32, page: &mut Page) -> bool
+    ensures { Tried result (slot_named slot number page.old) page.old page.new }
+{
+    let Page::Pointer(pointer) = page else {
+        return false;
+    };
+    if slot as usize >= pointer.slots.len() {
+        return false;
+    }
+    pointer.slots.set(slot as usize, number);
+    true
+}
+
+/// The greatest length of a value of a relation; 0 where the shape does not have the relation.
+pub(super) fn value_length(shape: &Shape, relation: u8) -> u8
+    requires { IsShape shape.now }
+    ensures { result ≡ value_length shape.now relation }
+{
+    if relation < shape.count {
+        shape.lengths[relation as usize]
+    } else {
+        0
+    }
+}
+
+/// Whether a value of that many bytes suits a version with this flag.
+fn suits(flag: Flag, greatest: u8, size: usize) -> bool
+    ensures { result ≡ suits flag greatest size }
+{
+    match flag {
+        Flag::Empty => false,
+        Flag::Primary => 1 <= size && size <= greatest as usize,
+        Flag::Deletion => size == 0,
+        Flag::Back => 1 <= size && size <= greatest as usize,
+    }
+}
+
+/// Whether the cell holds a version and is within its limits.
+fn is_version(greatest: u8, content: &Cell) -> bool
+    ensures { result ≡ is_version greatest content.now }
+{
+    suits(content.flag, greatest, content.value.as_bytes().len())
+        && content.number != 0
+        && (content.back_page != 0 || content.back_cell == 0)
+}
+
+/// Puts a version into a cell.
+pub(super) fn put_cell(shape: &Shape, cell: u16, content: Cell, page: &mut Page) -> bool
+    requires { IsShape shape.now }
+    ensures tried { Tried result (cell_put shape.now cell content page.old) page.old page.new }
+    ensures numbers { HasCellNumbers content }
+{
+    let Page::Data(data) = page else {
+        return false;
+    };
+    if cell as usize >= data.cells.len() {
+        return false;
+    }
+    if !is_version(value_length(shape, data.relation), &content) {
+        return false;
+    }
+    data.cells.set(cell as usize, content);
+    true
+}
+
+/// A cell that holds nothing.
+pub(super) fn empty_cell() -> Cell
+    ensures { result ≡ empty_cell }
+{
+    Cell {
+        flag: Flag::Empty,
+        number: 0,
+        back_page: 0,
+        back_cell: 0,
+        value: Value::new(&[]),
+    }
+}
+
+/// Empties a cell.
+pub(super) fn clear_cell(cell: u16, page: &mut Page) -> bool
+    ensures { Tried result (cell_cleared cell page.old) page.old page.new }
+{
+    let Page::Data(data) = page else {
+        return false;
+    };
+    if cell as usize >= data.cells.len() {
+        return false;
+    }
+    data.cells.set(cell as usize, empty_cell());
+    true
+}

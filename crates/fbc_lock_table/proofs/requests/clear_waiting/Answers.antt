@@ -1,0 +1,7 @@
+use Rattle.fbc_lock_table.specs.Effects.{without_wait}
+use Rattle.fbc_lock_table.proofs.InPlace.{map_step}
+use Rattle.fbc_lock_table.proofs.requests.clear_waiting.Goals as goal
+
+pub loop-request-preserved : goal.loop-request-preserved
+loop-request-preserved c =
+    map_step (without_wait c.args.owner) _ _ _ _ _ c.loop-request-test.true c.loop-request.auto.request-items c.loop-request.invariant c.cleared.ensures

@@ -1,0 +1,3 @@
+pub mod LandingLemmas
+pub mod SinkLemmas
+pub mod WrittenLemmas

@@ -1,0 +1,9 @@
+mod Lists
+mod Paths
+mod Shut
+mod Members
+mod Outcomes
+mod Through
+mod Purged
+mod Turned
+mod Census

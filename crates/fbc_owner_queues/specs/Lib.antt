@@ -1,0 +1,5 @@
+pub mod Grants
+pub mod Living
+pub mod Search
+pub mod Circles
+pub mod Turns

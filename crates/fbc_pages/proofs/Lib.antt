@@ -1,0 +1,3 @@
+mod HeaderWrites
+mod Reading
+mod Writes

@@ -1,0 +1,9 @@
+use Rattle.std.proofs.Common.{◌≡◌, ◌+◌, ◌<◌, ℕ, take, get_or}
+use Rattle.fbc_kinds.specs.TipSpelling.{states_byte}
+use Rattle.fbc_pages.proofs.tips.write_states.Given as goal
+
+abbrev pub invariant-loop-k : goal.invariant-loop-k
+invariant-loop-k l = record {
+  head : take 16 l.out ≡ take 16 l.initial.out;
+  states : (j : ℕ) → j < l.k → get_or l.out (16 + j) 0 ≡ states_byte l.states j;
+}
