@@ -1,17 +1,16 @@
-use Rattle.std.proofs.Common.{◌≡◌, ◌≢◌, ◌+◌, ◌-◌, ◌*◌, ◌^◌, ◌<◌, ◌≤◌, ◌&&◌, ◌||◌, ◌==◌, if◌then◌else◌, ℕ, zero, suc, Bool, true, false, not, List, ◌++◌, length, get_or, take, drop, replicate, Some, refl, sym, ap, ◌∙◌, inl, inr, arith}
-use Rattle.std.specs.Prelude.{None, Option, ◌⊎◌, nat_lt, nat_le, slice_range, slice_index, slice_get, codes}
+use Rattle.std.proofs.Common.{◌≡◌, ◌≢◌, ◌+◌, ◌-◌, ◌*◌, ◌<◌, ◌≤◌, ◌||◌, ◌==◌, ℕ, true, false, not, List, length, get_or, take, drop, replicate, Some, refl, sym, ap, ◌∙◌, inl, inr, arith}
+use Rattle.std.specs.Prelude.{None, nat_lt, slice_range, slice_index, slice_get, codes}
 use Rattle.std.specs.Str.{bytes_eq}
 use Rattle.std.proofs.lemmas.Bool.{cases_lt}
 use Rattle.std.proofs.lemmas.Bool.Decides.{nat_tests}
 use Rattle.std.proofs.lemmas.Slice.Eq.{bytes_eq-Decides}
-use Rattle.std.proofs.lemmas.Option.{slice_get-get_or, slice_get_within, slice_get_cases}
-use Rattle.std.proofs.lemmas.List.{take_at, take_all, take-replicate, drop-replicate, length-drop, length-replicate, get_or_past}
-use Rattle.fbc_kinds.specs.declared.rules.Rule.{Rule}
+use Rattle.std.proofs.lemmas.Option.{slice_get_within, slice_get_cases}
+use Rattle.std.proofs.lemmas.List.{take_at, take_all, take-replicate, drop-replicate, length-drop, get_or_past}
 use Rattle.fbc_kinds.specs.declared.rules.Rule.TheVariants as rule
 use Rattle.fbc_kinds.specs.declared.pages.Relation.{Relation}
 use Rattle.fbc_kinds.specs.Head.{HasHead, little_bytes, number_at, is_zeros, any_below, is_within, or_else, broken_head}
-use Rattle.fbc_kinds.specs.HeaderSpelling.{IsRead, IsPageNumber, IsHeader, HaveOwnNames, IsRelation, SpellsRelation, SpellsEntry, SpellsHeader, entry_at, name_in, value_length_in, pointer_count_in, page_number_in, page_size_in, version_in, relation_count_in, inventory_count_in, tip_count_in, next_in, has_mark, has_bad_number, has_bad_name, has_bad_value, has_bad_pointer_count, has_bad_pointers, has_bad_tips, has_bad_oldest, has_bad_rest, has_bad_next, has_bad_count, repeats_name, holds_name, broken_front, broken_counts, broken_relations, broken_end, broken_content, broken_header}
-use Rattle.fbc_kinds.specs.Limits.{IsPageSize, value_limit, transaction_limit, tip_numbers, relation_limit, inventory_limit, tip_limit, pointer_limit, name_limit}
+use Rattle.fbc_kinds.specs.HeaderSpelling.{IsRead, HaveOwnNames, SpellsRelation, SpellsEntry, SpellsHeader, entry_at, name_in, value_length_in, pointer_count_in, page_number_in, page_size_in, version_in, relation_count_in, inventory_count_in, tip_count_in, next_in, has_mark, has_bad_number, has_bad_name, has_bad_value, has_bad_pointer_count, has_bad_pointers, has_bad_tips, has_bad_oldest, has_bad_rest, has_bad_next, has_bad_count, repeats_name, holds_name, broken_front, broken_counts, broken_relations, broken_end, broken_content, broken_header}
+use Rattle.fbc_kinds.specs.Limits.{value_limit, transaction_limit, tip_numbers, relation_limit, inventory_limit, tip_limit, pointer_limit, name_limit}
 use Rattle.fbc_kinds.specs.Padding.{padded}
 use Rattle.fbc_kinds.proofs.AnyBelow.{any_below-fails}
 use Rattle.fbc_kinds.proofs.Heads.{true_from_not, zeros-is_zeros, four_fail}
@@ -19,7 +18,7 @@ use Rattle.fbc_kinds.proofs.Numbers.{little_2-number_at, little_4-number_at, num
 use Rattle.fbc_kinds.proofs.Pieces.{range_in, same_front-range, same_front-pieces}
 use Rattle.fbc_kinds.proofs.Tests.{both_fail, same_from_test, differ_from_test}
 use Rattle.fbc_kinds.proofs.Names.{is_name-short}
-use Rattle.fbc_kinds.proofs.HeaderRules.{ThreeFail, three_in_order, two_in_order, both_unbroken, within_from, other_branch, number_used, number_unused, RelationsPass, relations_pass}
+use Rattle.fbc_kinds.proofs.HeaderRules.{three_in_order, two_in_order, both_unbroken, within_from, other_branch, number_used, number_unused, RelationsPass, relations_pass}
 
 -- what a failed test of an order tells
 not_below : (m n : ℕ) → nat_lt m n ≡ false → n ≤ m

@@ -1,23 +1,19 @@
-use Rattle.std.proofs.Common.{◌≡◌, ◌≢◌, ◌+◌, ◌-◌, ◌*◌, ◌^◌, ◌<◌, ◌≤◌, ◌&&◌, ◌||◌, ◌==◌, if◌then◌else◌, ℕ, zero, suc, Bool, true, false, not, List, ◌++◌, length, get_or, take, drop, replicate, Some, refl, sym, ap, ◌∙◌, inl, inr, arith}
-use Rattle.std.specs.Prelude.{None, Option, ◌⊎◌, nat_lt, nat_le, slice_range, slice_index, slice_get, codes}
-use Rattle.std.specs.Str.{bytes_eq}
+use Rattle.std.proofs.Common.{◌≡◌, ◌≢◌, ◌+◌, ◌-◌, ◌*◌, ◌<◌, ◌≤◌, ◌&&◌, ◌==◌, if◌then◌else◌, ℕ, Bool, true, false, not, List, ◌++◌, length, get_or, take, drop, replicate, Some, refl, sym, ap, ◌∙◌, inl, inr, arith}
+use Rattle.std.specs.Prelude.{None, Option, nat_lt, nat_le, slice_range, slice_index}
 use Rattle.std.proofs.lemmas.Bool.{cases_lt}
 use Rattle.std.proofs.lemmas.Bool.Decides.{nat_tests}
-use Rattle.std.proofs.lemmas.Slice.Eq.{bytes_eq-Decides}
-use Rattle.std.proofs.lemmas.List.{take_at, take_all, take-append-drop, length-take, length-drop, length-replicate, get_or_past, drop-drop}
+use Rattle.std.proofs.lemmas.List.{get_or_past, drop-drop}
 use Rattle.std.proofs.Math.Seq.{take-add}
 use Rattle.fbc_kinds.specs.declared.rules.Rule.{Rule}
 use Rattle.fbc_kinds.specs.declared.rules.Rule.TheVariants as rule
 use Rattle.fbc_kinds.specs.declared.pages.Relation.{Relation}
-use Rattle.fbc_kinds.specs.Head.{little_bytes, number_at, is_zeros, any_below, is_within, or_else}
-use Rattle.fbc_kinds.specs.HeaderSpelling.{IsFairEntry, IsRelation, ArePageNumbers, SpellsRelation, SpellsEntry, SpellsHeader, entry_at, name_in, value_length_in, pointer_count_in, page_number_in, relation_count_in, inventory_count_in, tip_count_in, next_in, has_bad_number, has_bad_name, has_bad_value, has_bad_pointer_count, has_bad_pointers, has_bad_names, has_bad_values, has_some_bad_pointers, has_bad_tips, has_bad_oldest, has_bad_rest, has_bad_next, has_bad_count, repeats_name, holds_name, is_name, broken_counts, broken_relations, broken_end, broken_content}
-use Rattle.fbc_kinds.specs.Limits.{transaction_limit, tip_numbers, relation_limit, inventory_limit, tip_limit, value_limit, pointer_limit, name_limit}
-use Rattle.fbc_kinds.specs.Padding.{padded}
-use Rattle.fbc_kinds.proofs.AnyBelow.{any_below-fails, any_below-none}
-use Rattle.fbc_kinds.proofs.Heads.{both_pass, true_from_not, zeros-is_zeros, four_fail}
+use Rattle.fbc_kinds.specs.Head.{little_bytes, is_zeros, any_below, is_within, or_else}
+use Rattle.fbc_kinds.specs.HeaderSpelling.{IsFairEntry, IsRelation, SpellsRelation, entry_at, name_in, value_length_in, pointer_count_in, page_number_in, relation_count_in, has_bad_number, has_bad_name, has_bad_value, has_bad_pointer_count, has_bad_pointers, has_bad_names, has_bad_values, has_some_bad_pointers, repeats_name, holds_name, is_name, broken_relations}
+use Rattle.fbc_kinds.specs.Limits.{relation_limit, value_limit, pointer_limit, name_limit}
+use Rattle.fbc_kinds.proofs.AnyBelow.{any_below-fails}
+use Rattle.fbc_kinds.proofs.Heads.{both_pass, true_from_not, zeros-is_zeros}
 use Rattle.fbc_kinds.proofs.Numbers.{little_2-number_at, little_4-number_at, number_at-small_4, length-range}
-use Rattle.fbc_kinds.proofs.Pieces.{range_in, same_front-range, same_front-pieces}
-use Rattle.fbc_kinds.proofs.Tests.{both_fail, at_most, same_from_test, differ_from_test, test_of_order}
+use Rattle.fbc_kinds.proofs.Tests.{both_fail, at_most, same_from_test, differ_from_test}
 
 -- what three tests in order say where no rule is broken
 pub record ThreeFail (a b c : Bool) : Type 0 where

@@ -1,24 +1,24 @@
-use Rattle.std.proofs.Common.{◌≡◌, ◌≢◌, ◌+◌, ◌-◌, ◌*◌, ◌^◌, ◌<◌, ◌≤◌, ◌&&◌, ◌||◌, ◌==◌, if◌then◌else◌, ℕ, zero, suc, Bool, true, false, not, List, [], ◌++◌, length, get_or, take, drop, replicate, Some, refl, sym, ap, ◌∙◌, inl, inr, arith}
-use Rattle.std.specs.Prelude.{None, Option, ◌⊎◌, nat_lt, nat_le, slice_range, slice_index, slice_get, codes}
+use Rattle.std.proofs.Common.{◌≡◌, ◌≢◌, ◌+◌, ◌-◌, ◌*◌, ◌^◌, ◌<◌, ◌≤◌, ◌||◌, ◌==◌, ℕ, Bool, true, false, not, List, [], length, take, drop, replicate, Some, refl, sym, ap, ◌∙◌, inl, inr, arith}
+use Rattle.std.specs.Prelude.{None, nat_lt, nat_le, slice_range, slice_index, slice_get, codes}
 use Rattle.std.specs.Str.{bytes_eq}
 use Rattle.std.proofs.lemmas.Bool.{cases_lt}
 use Rattle.std.proofs.lemmas.Bool.Decides.{nat_tests}
 use Rattle.std.proofs.lemmas.Slice.Eq.{bytes_eq-Decides}
-use Rattle.std.proofs.lemmas.Option.{slice_get-get_or, slice_get_within, slice_get_past, slice_get_cases}
-use Rattle.std.proofs.lemmas.List.{drop_at, take_all, length-append, length-replicate, get_or_past}
+use Rattle.std.proofs.lemmas.Option.{slice_get_past, slice_get_cases}
+use Rattle.std.proofs.lemmas.List.{drop_at, take_all, length-replicate, get_or_past}
 use Rattle.fbc_kinds.specs.declared.pages.Header.{Header}
 use Rattle.fbc_kinds.specs.declared.pages.Relation.{Relation}
-use Rattle.fbc_kinds.specs.Head.{HasHead, little_bytes, number_in, number_at, is_zeros, any_below, is_within, or_else, broken_head}
-use Rattle.fbc_kinds.specs.HeaderSpelling.{IsHeader, IsRelation, ArePageNumbers, SpellsRelation, SpellsEntry, SpellsHeader, entry_at, name_in, value_length_in, pointer_count_in, page_number_in, page_size_in, version_in, relation_count_in, inventory_count_in, tip_count_in, next_in, has_mark, has_bad_number, has_bad_name, has_bad_value, has_bad_pointer_count, has_bad_pointers, has_bad_names, has_bad_values, has_some_bad_pointers, has_bad_tips, has_bad_oldest, has_bad_rest, has_bad_next, has_bad_count, repeats_name, holds_name, is_name, broken_front, broken_counts, broken_relations, broken_end, broken_content, broken_header}
+use Rattle.fbc_kinds.specs.Head.{little_bytes, number_in, number_at, is_zeros, any_below, is_within}
+use Rattle.fbc_kinds.specs.HeaderSpelling.{IsHeader, IsRelation, ArePageNumbers, SpellsRelation, SpellsEntry, SpellsHeader, entry_at, name_in, value_length_in, pointer_count_in, page_number_in, page_size_in, version_in, relation_count_in, inventory_count_in, tip_count_in, next_in, has_mark, has_bad_number, has_bad_name, has_bad_value, has_bad_pointer_count, has_bad_pointers, has_bad_names, has_bad_values, has_some_bad_pointers, has_bad_tips, has_bad_oldest, has_bad_rest, has_bad_next, has_bad_count, repeats_name, holds_name, is_name, broken_front, broken_counts, broken_relations, broken_end, broken_header}
 use Rattle.fbc_kinds.specs.Limits.{IsPageSize, value_limit, transaction_limit, tip_numbers, relation_limit, inventory_limit, tip_limit, pointer_limit, name_limit}
 use Rattle.fbc_kinds.specs.Padding.{padded}
 use Rattle.fbc_kinds.proofs.AnyBelow.{any_below-none}
 use Rattle.fbc_kinds.proofs.Heads.{IsPlainHead, HasHead-unbroken, is_zeros-replicate, four_none}
-use Rattle.fbc_kinds.proofs.HeaderLaws.{next_fits, reaches}
+use Rattle.fbc_kinds.proofs.HeaderLaws.{next_fits}
 use Rattle.fbc_kinds.proofs.HeaderReading.{name_in-spelled, range_zeros}
 use Rattle.fbc_kinds.proofs.HeaderRules.{taken_branch, other_branch}
 use Rattle.fbc_kinds.proofs.Names.{is_name-short}
-use Rattle.fbc_kinds.proofs.Numbers.{number_in-little_2, number_in-little_4, length-range}
+use Rattle.fbc_kinds.proofs.Numbers.{number_in-little_2, number_in-little_4}
 use Rattle.fbc_kinds.proofs.Pieces.{range_in}
 use Rattle.fbc_kinds.proofs.Tests.{neither, not_of_true, test_of_same, test_of_different, test_of_order}
 
@@ -62,7 +62,7 @@ size_fits size (inr (inr (inl is))) = omega arith
 size_fits size (inr (inr (inr (inl is)))) = omega arith
 size_fits size (inr (inr (inr (inr is)))) = omega arith
 
-numbers_are : (size : ℕ) (header : Header) (bytes : List ℕ) → IsPageSize size → SpellsHeader size header bytes → NumbersAre header bytes
+pub numbers_are : (size : ℕ) (header : Header) (bytes : List ℕ) → IsPageSize size → SpellsHeader size header bytes → NumbersAre header bytes
 numbers_are size header bytes is x = record {
   page_size = ap (number_in 256) x.page_size ∙ number_in-little_4 header.size (omega (arith, x.fits.page_size, size_fits size is));
   version = ap (number_in 256) x.version ∙ number_in-little_4 1 (omega arith);

@@ -1,14 +1,14 @@
-use Rattle.std.proofs.Common.{◌≡◌, ◌+◌, ◌-◌, ◌*◌, ◌/◌, ◌%◌, ◌^◌, ◌<◌, ◌≤◌, ◌&&◌, ◌||◌, ◌==◌, ℕ, zero, suc, Bool, true, false, not, List, length, get_or, Some, refl, sym, ap, ◌∙◌, arith, if◌then◌else◌}
+use Rattle.std.proofs.Common.{◌≡◌, ◌+◌, ◌-◌, ◌*◌, ◌/◌, ◌%◌, ◌^◌, ◌<◌, ◌||◌, ◌==◌, ℕ, Bool, true, false, not, List, length, get_or, Some, refl, sym, ap, ◌∙◌, arith, if◌then◌else◌}
 use Rattle.std.specs.Prelude.{None, slice_get, slice_index, slice_index_or}
-use Rattle.std.proofs.lemmas.Option.{slice_get-get_or, get_or_from_slice_get, slice_get_within}
+use Rattle.std.proofs.lemmas.Option.{slice_get-get_or, get_or_from_slice_get}
 use Rattle.fbc_kinds.specs.declared.rules.Rule.TheVariants as rule
 use Rattle.fbc_kinds.specs.declared.pages.Inventory.{Inventory}
-use Rattle.fbc_kinds.specs.Head.{HasHead, number_in, sequence_in, broken_head}
+use Rattle.fbc_kinds.specs.Head.{HasHead, number_in, sequence_in}
 use Rattle.fbc_kinds.specs.Limits.{inventory_bits}
-use Rattle.fbc_kinds.specs.InventorySpelling.{IsInventory, SpellsInventory, mark_bit, bit_at, marks_byte, is_taken, hides_itself, hides_header, broken_marks, broken_inventory}
+use Rattle.fbc_kinds.specs.InventorySpelling.{SpellsInventory, mark_bit, bit_at, marks_byte, is_taken, hides_itself, hides_header, broken_marks, broken_inventory}
 use Rattle.fbc_kinds.proofs.Heads.{true_from_not, IsPlainHead, HasHead-unbroken}
 use Rattle.fbc_kinds.proofs.Numbers.{number_in-little_4}
-use Rattle.fbc_kinds.proofs.Tests.{both_fail, neither, and_fails, fails_under, same_from_test, test_of_same, not_of_true}
+use Rattle.fbc_kinds.proofs.Tests.{and_fails, fails_under, same_from_test, test_of_same, not_of_true}
 use Rattle.fbc_kinds.proofs.InventoryLaws.{mark_bit-small, by_place}
 
 -- the lowest binary digit and the rest of a number

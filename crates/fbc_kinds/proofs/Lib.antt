@@ -8,11 +8,13 @@ pub mod HeaderUnbroken
 pub mod Heads
 pub mod InventoryLaws
 pub mod InventoryRules
+pub mod Meanings
 pub mod Names
 pub mod Numbers
 pub mod Pieces
 pub mod Roles
 pub mod Runs
+pub mod ShapeLaws
 pub mod ShapeReading
 pub mod Sizes
 pub mod Tests

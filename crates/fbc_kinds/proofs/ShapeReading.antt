@@ -1,15 +1,15 @@
-use Rattle.std.proofs.Common.{◌≡◌, ◌≢◌, ◌+◌, ◌-◌, ◌*◌, ◌<◌, ◌≤◌, ◌==◌, ℕ, Bool, true, false, List, [], length, get_or, replicate, Some, refl, sym, ap, ◌∙◌, inl, inr, arith}
-use Rattle.std.specs.Prelude.{None, Option, not, nat_lt, if◌then◌else◌, ◌||◌, ◌⊎◌, slice_get, slice_index}
+use Rattle.std.proofs.Common.{◌≡◌, ◌<◌, ◌≤◌, ◌==◌, ℕ, Bool, true, false, List, [], length, get_or, Some, refl, sym, ap, ◌∙◌, inl, inr, arith}
+use Rattle.std.specs.Prelude.{None, Option, not, nat_lt, if◌then◌else◌, ◌||◌, slice_get}
 use Rattle.std.proofs.lemmas.Bool.{cases_lt}
 use Rattle.std.proofs.lemmas.Bool.Decides.{nat_tests}
 use Rattle.fbc_kinds.specs.declared.rules.Rule.TheVariants as rule
 use Rattle.fbc_kinds.specs.declared.shapes.Shape.{Shape}
-use Rattle.fbc_kinds.specs.Head.{number_at, or_else, broken_head}
-use Rattle.fbc_kinds.specs.Limits.{IsPageSize, is_page_size, file_pages, inventory_bits, inventory_limit}
-use Rattle.fbc_kinds.specs.HeaderSpelling.{IsFairEntry, IsShape, ShowsShape, entry_at, name_in, value_length_in, page_size_in, relation_count_in, broken_counts, broken_relations, broken_end, broken_content, broken_front, broken_length, broken_beginning, broken_file, as_recognised, has_mark, version_in}
+use Rattle.fbc_kinds.specs.Head.{or_else, broken_head}
+use Rattle.fbc_kinds.specs.Limits.{IsPageSize, is_page_size}
+use Rattle.fbc_kinds.specs.HeaderSpelling.{IsShape, ShowsShape, entry_at, name_in, value_length_in, page_size_in, relation_count_in, broken_counts, broken_relations, broken_end, broken_content, broken_front, broken_length, broken_beginning, broken_file, as_recognised, has_mark, version_in}
 use Rattle.fbc_kinds.proofs.HeaderRules.{both_unbroken, RelationsPass, relations_pass, IsFairEntry-used, length-name_in}
 use Rattle.fbc_kinds.proofs.HeaderReading.{CountsPass, counts_pass, unused_entry, earlier_differs}
-use Rattle.fbc_kinds.proofs.Tests.{both_fail, same_from_test}
+use Rattle.fbc_kinds.proofs.Tests.{same_from_test}
 
 -- the content of a header that breaks no rule
 pub record ContentPasses (size : ℕ) (first : List ℕ) : Type 0 where

@@ -1,4 +1,4 @@
-use Rattle.std.proofs.Common.{◌≡◌, ◌<◌, ℕ, inl, inr, arith}
+use Rattle.std.proofs.Common.{◌<◌, ℕ, inl, inr, arith}
 use Rattle.fbc_kinds.specs.Limits.{IsPageSize}
 
 -- a page is larger than its head

@@ -1,17 +1,15 @@
-use Rattle.std.proofs.Common.{◌≡◌, ◌≢◌, ◌+◌, ◌-◌, ◌*◌, ◌/◌, ◌%◌, ◌^◌, ◌<◌, ◌≤◌, ◌&&◌, ◌||◌, ◌==◌, if◌then◌else◌, ℕ, zero, suc, Bool, true, false, not, List, length, get_or, drop, Some, refl, sym, ap, ◌∙◌, arith}
+use Rattle.std.proofs.Common.{◌≡◌, ◌≢◌, ◌+◌, ◌-◌, ◌*◌, ◌/◌, ◌%◌, ◌^◌, ◌<◌, ◌||◌, ◌==◌, if◌then◌else◌, ℕ, zero, suc, Bool, true, false, not, List, length, get_or, drop, Some, refl, sym, ap, ◌∙◌, arith}
 use Rattle.std.specs.Prelude.{None, slice_get, slice_index, slice_index_or}
-use Rattle.std.specs.List.{list_any}
 use Rattle.std.proofs.lemmas.List.{get_or-drop, length-drop}
 use Rattle.std.proofs.lemmas.Option.{slice_get-get_or, get_or_from_slice_get, slice_get_within}
 use Rattle.fbc_kinds.specs.declared.rules.Rule.TheVariants as rule
 use Rattle.fbc_kinds.specs.declared.pages.State.{State}
-use Rattle.fbc_kinds.specs.declared.pages.State.TheVariants.{Active, Limbo, Dead, Committed}
+use Rattle.fbc_kinds.specs.declared.pages.State.TheVariants.{Active, Limbo}
 use Rattle.fbc_kinds.specs.declared.pages.Tip.{Tip}
-use Rattle.fbc_kinds.specs.Head.{HasHead, number_in, sequence_in, broken_head}
-use Rattle.fbc_kinds.specs.TipSpelling.{IsTip, SpellsTip, state_code, state_of, code_at, states_byte, has_bad_zero, has_bad_state, byte_has_limbo, broken_states, broken_tip}
+use Rattle.fbc_kinds.specs.Head.{HasHead, number_in, sequence_in}
+use Rattle.fbc_kinds.specs.TipSpelling.{SpellsTip, state_code, state_of, code_at, states_byte, has_bad_zero, has_bad_state, byte_has_limbo, broken_states, broken_tip}
 use Rattle.fbc_kinds.proofs.Heads.{true_from_not, IsPlainHead, HasHead-unbroken}
 use Rattle.fbc_kinds.proofs.Numbers.{number_in-little_4}
-use Rattle.fbc_kinds.proofs.Pieces.{head_is_whole}
 use Rattle.fbc_kinds.proofs.Tests.{both_fail, neither, list_any-fails, list_any-none, same_from_test, differ_from_test, test_of_same, test_of_different, fails_under, not_of_true, and_fails}
 use Rattle.fbc_kinds.proofs.TipLaws.{state_code-small, state_of-state_code}
 

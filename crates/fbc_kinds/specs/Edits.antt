@@ -47,6 +47,7 @@ given false after = None
 abbrev pub is_next : ℕ → ℕ → ℕ → Bool
 is_next size tips next = nat_le 1 next && nat_le next (transaction_limit size) && nat_le next (tip_numbers size * tips)
 
+-- the page whose next number is this one
 abbrev pub next_set : Shape → ℕ → Page → Option Page
 next_set shape next (page.Header header) = given (is_next shape.size (length header.tips) next) (page.Header (record header { next = next }))
 next_set shape next _ = None
@@ -55,6 +56,7 @@ next_set shape next _ = None
 abbrev pub takes_page : ℕ → List ℕ → ℕ → Bool
 takes_page limit pages number = not (number == 0) && nat_lt (length pages) limit
 
+-- the page with one more transaction inventory page
 abbrev pub tip_added : ℕ → Page → Option Page
 tip_added number (page.Header header) = given (takes_page tip_limit header.tips number) (page.Header (record header { tips = header.tips ++ number ∷ [] }))
 tip_added number _ = None
@@ -68,10 +70,12 @@ abbrev pub with_entry : ℕ → Header → Option Relation → Option Page
 with_entry relation header (Some entry) = Some (page.Header (record header { relations = slice_set header.relations relation entry }))
 with_entry relation header None = None
 
+-- the page with one more pointer page of a relation that it has
 abbrev pub pointer_added : ℕ → ℕ → Page → Option Page
 pointer_added relation number (page.Header header) = with_entry relation header (option_and_then (λ entry. pointed entry number) (slice_get header.relations relation))
 pointer_added relation number _ = None
 
+-- the page that counts one more page inventory page
 abbrev pub inventory_added : Page → Option Page
 inventory_added (page.Header header) = given (nat_lt header.inventories inventory_limit) (page.Header (record header { inventories = header.inventories + 1 }))
 inventory_added _ = None
@@ -84,11 +88,12 @@ covers size sequence number = number / inventory_bits size == sequence
 abbrev pub with_mark : ℕ → ℕ → Bool → Inventory → Inventory
 with_mark size number taken inventory = record inventory { taken = slice_set inventory.taken (number % inventory_bits size) taken }
 
+-- the page that shows a page as taken
 abbrev pub page_taken : Shape → ℕ → Page → Option Page
 page_taken shape number (page.Inventory inventory) = given (covers shape.size inventory.sequence number) (page.Inventory (with_mark shape.size number true inventory))
 page_taken shape number _ = None
 
--- neither the header nor the page inventory itself is ever free
+-- the page that shows a page as free; neither the header nor the page inventory itself is ever free
 abbrev pub page_freed : Shape → ℕ → Page → Option Page
 page_freed shape number (page.Inventory inventory) =
     given (covers shape.size inventory.sequence number && not (number == 0) && not (number == inventory.page)) (page.Inventory (with_mark shape.size number false inventory))
@@ -109,11 +114,13 @@ may_be number Committed = not (number == 0)
 abbrev pub with_state : ℕ → ℕ → State → Tip → Tip
 with_state size number state tip = record tip { states = slice_set tip.states (number % tip_numbers size) state }
 
+-- the page that shows a transaction number in a state
 abbrev pub state_marked : Shape → ℕ → State → Page → Option Page
 state_marked shape number state (page.Tip tip) =
     given (stands_in shape.size tip.sequence number && may_be number state) (page.Tip (with_state shape.size number state tip))
 state_marked shape number state _ = None
 
+-- the page with this number in a slot that it has
 abbrev pub slot_named : ℕ → ℕ → Page → Option Page
 slot_named slot number (page.Pointer pointer) = given (nat_lt slot (length pointer.slots)) (page.Pointer (record pointer { slots = slice_set pointer.slots slot number }))
 slot_named slot number _ = None
@@ -130,11 +137,13 @@ abbrev pub is_version : ℕ → Cell → Bool
 is_version greatest content =
     suits content.flag greatest (length content.value) && not (content.number == 0) && (not (content.back_page == 0) || content.back_cell == 0)
 
+-- the page with this version in a cell that it has
 abbrev pub cell_put : Shape → ℕ → Cell → Page → Option Page
 cell_put shape cell content (page.Data data_page) =
     given (nat_lt cell (length data_page.cells) && is_version (value_length shape data_page.relation) content) (page.Data (record data_page { cells = slice_set data_page.cells cell content }))
 cell_put shape cell content _ = None
 
+-- the page with nothing in a cell that it has
 abbrev pub cell_cleared : ℕ → Page → Option Page
 cell_cleared cell (page.Data data_page) = given (nat_lt cell (length data_page.cells)) (page.Data (record data_page { cells = slice_set data_page.cells cell empty_cell }))
 cell_cleared cell _ = None
@@ -149,13 +158,16 @@ abbrev pub inventory_formatted : ℕ → ℕ → ℕ → Option Page
 inventory_formatted size number sequence =
     given (not (sequence == 0) || number == 0) (page.Inventory (record { page = number; sequence = sequence; taken = own_marks size number sequence }))
 
+-- an empty transaction inventory page: every number is active
 abbrev pub tip_formatted : ℕ → ℕ → ℕ → Option Page
 tip_formatted size number sequence = Some (page.Tip (record { page = number; sequence = sequence; states = replicate (tip_numbers size) Active }))
 
+-- an empty pointer page of a relation that the shape has: no slot names a page
 abbrev pub pointer_formatted : Shape → ℕ → ℕ → ℕ → Option Page
 pointer_formatted shape number relation sequence =
     given (nat_lt relation shape.count) (page.Pointer (record { page = number; relation = relation; sequence = sequence; slots = replicate (slots shape.size) 0 }))
 
+-- an empty data page of a relation that the shape has: no cell holds a version
 abbrev pub data_formatted : Shape → ℕ → ℕ → ℕ → Option Page
 data_formatted shape number relation sequence =
     given (nat_lt relation shape.count)

@@ -303,3 +303,10 @@ pub record IsShape (shape : Shape) : Type 0 where
   pub lengths : (i n : ℕ) → i < shape.count → slice_get shape.lengths i ≡ Some n → (1 ≤ n) × (n ≤ value_limit)
   pub no_lengths : (i : ℕ) → i < relation_limit → shape.count ≤ i → slice_get shape.lengths i ≡ Some 0
   pub limit : shape.limit ≤ inventory_limit * inventory_bits shape.size
+
+-- this shape is a header's: its size, and the names and value lengths of its relations
+pub record HasShape (shape : Shape) (header : Header) : Type 0 where
+  pub size : header.size ≡ shape.size
+  pub count : length header.relations ≡ shape.count
+  pub names : (i : ℕ) (r : Relation) → slice_get header.relations i ≡ Some r → slice_get shape.names i ≡ Some r.name
+  pub lengths : (i : ℕ) (r : Relation) → slice_get header.relations i ≡ Some r → slice_get shape.lengths i ≡ Some r.length

@@ -13,5 +13,6 @@ pub mod PointerSpelling
 pub mod Reach
 pub mod RuleText
 pub mod Sound
+pub mod Spelling
 pub mod TipSpelling
 pub mod View

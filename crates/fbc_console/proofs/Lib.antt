@@ -1,0 +1,6 @@
+mod CellLemmas
+mod CommitLemmas
+mod Fits
+mod SayingLemmas
+mod StoreLemmas
+mod WriteLemmas

@@ -1,0 +1,10 @@
+pub mod Committing
+pub mod FreshFile
+pub mod Images
+pub mod Saying
+pub mod Script
+pub mod Statuses
+pub mod StoredPages
+pub mod Transaction
+pub mod Words
+pub mod Writes
