@@ -16,3 +16,6 @@ pub use playing::play;
 pub use reading::read_script;
 pub use statuses::Status;
 pub use words::is_command_line;
+
+#[cfg(test)]
+mod tests;
