@@ -1,15 +1,14 @@
 -- The least page past `above` on which somebody is kept out, among the requests so far.
-use Rattle.std.proofs.Common.{◌≡◌, ℕ, zero, suc, ◌+◌, ◌<◌, ◌≤◌, min, Bool, true, false, not, ◌||◌, ◌&&◌, ◌==◌, if◌then◌else◌, List, [], ◌∷◌, take, Option, Some, None, slice_get, IfSome, IsSome, MatchOption, ◌⊎◌, inl, inr, add-one, refl, sym, ◌∙◌, ap, subst, arith}
+use Rattle.std.proofs.Common.{◌≡◌, ℕ, zero, suc, ◌+◌, ◌≤◌, min, Bool, true, false, not, ◌||◌, ◌&&◌, ◌==◌, if◌then◌else◌, List, [], ◌∷◌, take, Option, Some, None, slice_get, IfSome, IsSome, MatchOption, ◌⊎◌, inl, inr, add-one, refl, sym, ◌∙◌, ap, subst, arith}
 use Rattle.std.specs.List.{find, fold, list_any, AllByRecursion}
 use Rattle.std.specs.Option.{option_map, option_map_or}
 use Rattle.std.proofs.lemmas.Bool.Decides.{nat_tests}
-use Rattle.fbc_levels.specs.declared.resources.Series.{Series}
 use Rattle.fbc_levels.specs.declared.resources.Series.TheVariants.{Page}
 use Rattle.fbc_levels.specs.declared.resources.Resource.{Resource}
 use Rattle.fbc_levels.specs.declared.resources.Request.{Request}
 use Rattle.fbc_levels.specs.Resources.{is_same_series, is_same_resource}
 use Rattle.fbc_levels.specs.LockState.{LockState, granted_of}
-use Rattle.fbc_blocking.specs.Callbacks.{page_of, is_of_other, is_against, is_kept_out, kept_out, blocked_by, IsPast, is_past, is_called, with_called, IsNextPage, KeepsNobodyOut}
+use Rattle.fbc_blocking.specs.Callbacks.{page_of, is_of_other, is_against, is_kept_out, IsPast, is_past, is_called, with_called, IsNextPage, KeepsNobodyOut}
 
 -- one more request
 fold_next : {X Y : Type 0} (f : Y → X → Y) (xs : List X) (y : Y) (k : ℕ) (x : X) → slice_get xs k ≡ Some x → f (fold f y (take k xs)) x ≡ fold f y (take (suc k) xs)

@@ -1,6 +1,7 @@
 //! Pages by their bytes, and which rule a damaged page breaks first.
 
 ghost use Rattle.std.specs.Prelude.{◌≤◌, length as list_length};
+ghost use Rattle.fbc_kinds.specs.Limits.{IsPageSize};
 
 use crate::{decode_data, decode_pointer, encode_data, encode_pointer};
 use fbc_kinds::{Cell, Flag, PageFault, Rule, Value};
@@ -28,7 +29,9 @@ fn lay(out: &mut [u8], at: usize, part: &[u8]) {
     }
 }
 
-/// The pointer page of a new file, after the first row was inserted.
+/// The pointer page of a new file, and after the first row was inserted.
+const NEW_POINTER: &[Part] = &[(0, &[4, 1, 0, 0, 3])];
+
 const POINTER: &[Part] = &[(0, &[4, 1, 0, 0, 3]), (16, &[4])];
 
 /// The data page of that row, of values of at most 10 bytes.
@@ -38,17 +41,37 @@ const DATA: &[Part] = &[
 ];
 
 #[test]
-fn pointer_page(rt: HostRuntime) -> Result<(), PageFault> {
-    let bytes = page_of(POINTER, &[]);
-    let page = decode_pointer(rt.alloc(), 1024, 3, &bytes)?;
-    assert_eq!(rt; (page.page, page.relation, page.sequence), (3, 0, 0));
-    assert_eq!(rt; page.slots.len(), 252);
-    assert_eq!(rt; page.slots.items().get(0).copied(), Some(4));
-    assert_eq!(rt; page.slots.items().get(1).copied(), Some(0));
-    let mut out = [0xff; 1024];
-    encode_pointer(&page, 1024, &mut out);
-    assert!(rt; out == bytes);
+fn pointer_pages(rt: HostRuntime) -> Result<(), PageFault> {
+    for (parts, first) in [(NEW_POINTER, 0), (POINTER, 4)] {
+        let bytes = page_of(parts, &[]);
+        let page = decode_pointer(rt.alloc(), 1024, 3, &bytes)?;
+        assert_eq!(rt; (page.page, page.relation, page.sequence), (3, 0, 0));
+        assert_eq!(rt; page.slots.items().get(0).copied(), Some(first));
+        assert_eq!(rt; page.slots.items().get(1).copied(), Some(0));
+        let mut out = [0xff; 1024];
+        encode_pointer(&page, 1024, &mut out);
+        assert!(rt; out == bytes);
+    }
     Ok(())
+}
+
+/// The slots of a pointer page of that size.
+fn check_size(rt: &impl Abort, alloc: Global, size: u32, slots: usize) -> Result<(), PageFault>
+    requires { IsPageSize size }
+{
+    let mut bytes = vec![in alloc; 0; size as usize]?;
+    lay(&mut bytes, 0, &[4, 1, 0, 0, 3]);
+    assert_eq!(rt; decode_pointer(alloc, size, 3, &bytes)?.slots.len(), slots);
+    Ok(())
+}
+
+#[test]
+fn sizes_have_their_slots(rt: HostRuntime) -> Result<(), PageFault> {
+    check_size(&rt, rt.alloc(), 1024, 252)?;
+    check_size(&rt, rt.alloc(), 2048, 508)?;
+    check_size(&rt, rt.alloc(), 4096, 1020)?;
+    check_size(&rt, rt.alloc(), 8192, 2044)?;
+    check_size(&rt, rt.alloc(), 16384, 4092)
 }
 
 /// Asserts what a data page holds, and that its encoding over other bytes gives its bytes.
@@ -208,8 +231,11 @@ fn rules_of_data_pages(rt: HostRuntime) -> Result<(), PageFault> {
         false,
         &[
             (&[(0, &[4])], Some(Rule::Kind)),
+            (&[(0, &[4, 2])], Some(Rule::Kind)),
             (&[(13, &[1])], Some(Rule::Head)),
+            (&[(13, &[1]), (4, &[3])], Some(Rule::Head)),
             (&[(4, &[3])], Some(Rule::Number)),
+            (&[(4, &[3]), (2, &[8])], Some(Rule::Number)),
             (&[(2, &[8])], Some(Rule::Relation)),
             (&[(2, &[8]), (16, &[4])], Some(Rule::Relation)),
             (&[(16, &[4])], Some(Rule::Flag)),

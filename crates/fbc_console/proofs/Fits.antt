@@ -22,15 +22,15 @@ use Rattle.fbc_console.specs.FreshFile.{fresh_relation, fresh_header, fresh_inve
 use Rattle.fbc_console.specs.StoredPages.{IsShortValue}
 use Rattle.fbc_console.proofs.CellLemmas.{length-cells_of}
 
-length-active_states : (count : ℕ) → length (active_states count) ≡ count
+pub length-active_states : (count : ℕ) → length (active_states count) ≡ count
 unfolding active_states
 length-active_states count = length-replicate count Active
 
-length-empty_slots : (count : ℕ) → length (empty_slots count) ≡ count
+pub length-empty_slots : (count : ℕ) → length (empty_slots count) ≡ count
 unfolding empty_slots
 length-empty_slots count = length-replicate count 0
 
-length-taken_first : (taken free : ℕ) → length (taken_first taken free) ≡ taken + free
+pub length-taken_first : (taken free : ℕ) → length (taken_first taken free) ≡ taken + free
 unfolding taken_first
 length-taken_first taken free = grind (arith, common_steps)
 
@@ -78,7 +78,7 @@ IsTip-committed = record {
     two : (count : ℕ) → 1 < count → 1 < length (active_states count)
     two count more = omega (arith, length-active_states count, more)
 
-slice_get-taken_first : (taken free i : ℕ) → i < taken → slice_get (taken_first taken free) i ≡ Some true
+pub slice_get-taken_first : (taken free i : ℕ) → i < taken → slice_get (taken_first taken free) i ≡ Some true
 unfolding taken_first
 slice_get-taken_first taken free i within =
     let marks : List Bool = replicate taken true in
@@ -87,7 +87,7 @@ slice_get-taken_first taken free i within =
     ∙ ap Some (get_or_append_left marks (replicate free false) true i front ∙ get_or-replicate taken i true true within)
 
 -- a mark stays set when another one is set
-slice_get-set_true : (marks : List Bool) (i j : ℕ) → slice_get marks j ≡ Some true → slice_get (slice_set marks i true) j ≡ Some true
+pub slice_get-set_true : (marks : List Bool) (i j : ℕ) → slice_get marks j ≡ Some true → slice_get (slice_set marks i true) j ≡ Some true
 slice_get-set_true marks i j is =
     let within : j < length marks = slice_get_within marks j true is in
     slice_get-get_or (slice_set marks i true) j true (omega (arith, length-set marks i true, within)) ∙ ap Some (either marks i j is (get_or_from_slice_get marks j true true is))

@@ -1,6 +1,6 @@
 -- What a sink has taken after one text and then another.
 use Rattle.std.proofs.Common.{◌≡◌, ◌<◌, ◌≤◌, ◌+◌, ◌⊎◌, inl, inr, ◌++◌, ℕ, List, [], ◌∷◌, length, take, slice_index_or, Some, Ok, Err, true, refl, ap, sym, subst, ◌∙◌, append_assoc, length-append, arith}
-use Rattle.std.specs.Prelude.{reverse, count_by, Result, cond}
+use Rattle.std.specs.Prelude.{reverse, count_by, Option, Result, cond}
 use Rattle.std.proofs.Math.Seq.{take-append-add, take-length}
 use Rattle.std.proofs.lemmas.List.{take-append-le, append-nil, reverse-append}
 use Rattle.std.proofs.lemmas.List.Sums.{count_by_more_yes, sum_by-append, sum_by-take-le}
@@ -12,7 +12,8 @@ use Rattle.fbc_script.specs.SingleTransaction.{is_insert}
 use Rattle.fbc_console.specs.declared.statuses.Status.{Status}
 use Rattle.fbc_console.specs.declared.statuses.Status.TheVariants as status
 use Rattle.fbc_console.specs.declared.transaction.Answer.TheVariants as answer
-use Rattle.fbc_console.specs.Transaction.{inserted, answer_to, answer_line, step_lines, opening_lines, lines_before_commit, commit_line, transcript, IsTold, nothing, attached, stepped, whole}
+use Rattle.fbc_console.specs.Transaction.{inserted, answer_to, answer_line, step_lines, opening_lines, lines_before_commit, commit_line, transcript, IsTold, nothing, attached, stepped}
+use Rattle.fbc_console.specs.Committing.{IsCommitted}
 use Rattle.fbc_console.specs.Saying.{IsSaid, IsOpeningSaid, CutsSteps, StopsSteps, AreStepsSaid, IsCut, IsStopped, IsFrontSaid, IsTransactionSaid, IsCommitSaid}
 
 -- one text and then another
@@ -42,20 +43,12 @@ pub opening : (a b c : List ℕ → Type 0) (r : Result (Unit {0}) Status) → S
 opening a b c (Ok done) first next = takes_both a b c (answer_line 1 answer.Ok) (answer_line 2 (answer.Number 1)) first next
 opening a b c (Err status.SinkFault) first next = takes_some a b c (answer_line 1 answer.Ok) (answer_line 2 (answer.Number 1)) first next
 opening a b c (Err status.OutOfMemory) first next = inr (takes_none a b c (answer_line 1 answer.Ok) first next)
-opening a b c (Err status.Ok) first next = next
-opening a b c (Err status.Usage) first next = next
-opening a b c (Err status.DeviceFault) first next = next
-opening a b c (Err status.SourceFault) first next = next
-opening a b c (Err status.Later) first next = next
+opening a b c (Err _) first next = next
 
 pub opening_cut : (a c : List ℕ → Type 0) (s : Status) → IsSaid (Err s) a c (answer_line 1 answer.Ok) → IsOpeningSaid (Err s) a c
 opening_cut a c status.SinkFault said = some_longer a c (answer_line 1 answer.Ok) (answer_line 2 (answer.Number 1)) said
 opening_cut a c status.OutOfMemory said = inl said
-opening_cut a c status.Ok said = said
-opening_cut a c status.Usage said = said
-opening_cut a c status.DeviceFault said = said
-opening_cut a c status.SourceFault said = said
-opening_cut a c status.Later said = said
+opening_cut a c _ said = said
 
 -- the lines of one step more
 step_lines-next : (steps : List Step) (i : ℕ) (next : Step) → i < length steps → step_lines (reverse (take (i + 1) steps)) ≡ step_lines (reverse (take i steps)) ++ answer_line (i + 3) (answer_to (inserted (reverse (take i steps))) (slice_index_or steps i next))
@@ -73,11 +66,7 @@ steps_cut a b c steps i next status.SinkFault within first said =
     }
 steps_cut a b c steps i next status.OutOfMemory within first said =
     record { count = i; within = omega (arith, within); taken = takes_none a b c (step_lines (reverse (take i steps))) first said }
-steps_cut a b c steps i next status.Ok within first said = said
-steps_cut a b c steps i next status.Usage within first said = said
-steps_cut a b c steps i next status.DeviceFault within first said = said
-steps_cut a b c steps i next status.SourceFault within first said = said
-steps_cut a b c steps i next status.Later within first said = said
+steps_cut a b c steps i next _ within first said = said
 
 -- after the opening nothing is told of the steps
 told_none : (steps : List Step) → IsTold steps (lines_before_commit [])
@@ -95,55 +84,42 @@ front a b c steps (Err status.OutOfMemory) first said = record {
   told = stepped said.count said.within;
   taken = takes_both a b c opening_lines (step_lines (reverse (take said.count steps))) first said.taken;
 }
-front a b c steps (Err status.Ok) first said = said
-front a b c steps (Err status.Usage) first said = said
-front a b c steps (Err status.DeviceFault) first said = said
-front a b c steps (Err status.SourceFault) first said = said
-front a b c steps (Err status.Later) first said = said
+front a b c steps (Err _) first said = said
 
 pub front_cut : (a c : List ℕ → Type 0) (steps : List Step) (s : Status) → IsOpeningSaid (Err s) a c → IsFrontSaid (Err s) a c steps
 front_cut a c steps status.SinkFault said = record { text = lines_before_commit []; told = told_none steps; taken = some_longer a c opening_lines [] said }
 front_cut a c steps status.OutOfMemory (inl said) = record { text = []; told = nothing; taken = said }
 front_cut a c steps status.OutOfMemory (inr said) = record { text = answer_line 1 answer.Ok; told = attached; taken = said }
-front_cut a c steps status.Ok said = said
-front_cut a c steps status.Usage said = said
-front_cut a c steps status.DeviceFault said = said
-front_cut a c steps status.SourceFault said = said
-front_cut a c steps status.Later said = said
+front_cut a c steps _ said = said
 
 -- all statements but commit are told before it
 told_front : (steps : List Step) → IsTold steps (lines_before_commit steps)
 told_front steps = subst (λ z. IsTold steps (lines_before_commit z)) (take-length steps) (stepped (length steps) (omega arith))
 
-pub transaction : (a b c : List ℕ → Type 0) (steps : List Step) (r : Result (Unit {0}) Status) → SinkTakes a b (lines_before_commit steps) → IsCommitSaid r b c (commit_line steps) → IsTransactionSaid r a c steps
-transaction a b c steps (Ok done) first said = takes_both a b c (lines_before_commit steps) (commit_line steps) first said
-transaction a b c steps (Err status.SinkFault) first said = record { text = transcript steps; told = whole; taken = takes_some a b c (lines_before_commit steps) (commit_line steps) first said }
-transaction a b c steps (Err status.OutOfMemory) first said = record { text = lines_before_commit steps; told = told_front steps; taken = takes_none a b c (lines_before_commit steps) first said }
-transaction a b c steps (Err status.DeviceFault) first said = takes_none a b c (lines_before_commit steps) first said
-transaction a b c steps (Err status.Ok) first said = said
-transaction a b c steps (Err status.Usage) first said = said
-transaction a b c steps (Err status.SourceFault) first said = said
-transaction a b c steps (Err status.Later) first said = said
+pub transaction : (a b c : List ℕ → Type 0) (steps : List Step) (r : Result (Unit {0}) Status) (before now : Option (List ℕ)) → SinkTakes a b (lines_before_commit steps) → IsCommitSaid r b c (commit_line steps)
+    → (r ≡ Err status.SinkFault → IsCommitted before now (inserted (reverse steps))) → IsTransactionSaid r a c steps before now
+transaction a b c steps (Ok done) before now first said committed = takes_both a b c (lines_before_commit steps) (commit_line steps) first said
+transaction a b c steps (Err status.SinkFault) before now first said committed = inr (takes_some a b c (lines_before_commit steps) (commit_line steps) first said, committed refl)
+transaction a b c steps (Err status.OutOfMemory) before now first said committed = record { text = lines_before_commit steps; told = told_front steps; taken = takes_none a b c (lines_before_commit steps) first said }
+transaction a b c steps (Err status.DeviceFault) before now first said committed = takes_none a b c (lines_before_commit steps) first said
+transaction a b c steps (Err _) before now first said committed = said
 
-pub transaction_cut : (a c : List ℕ → Type 0) (steps : List Step) (s : Status) → IsFrontSaid (Err s) a c steps → IsTransactionSaid (Err s) a c steps
-transaction_cut a c steps status.SinkFault said = said
-transaction_cut a c steps status.OutOfMemory said = said
-transaction_cut a c steps status.DeviceFault said = let no : ⊥ = said in absurd no
-transaction_cut a c steps status.Ok said = said
-transaction_cut a c steps status.Usage said = said
-transaction_cut a c steps status.SourceFault said = said
-transaction_cut a c steps status.Later said = said
+pub transaction_cut : (a c : List ℕ → Type 0) (steps : List Step) (s : Status) (before now : Option (List ℕ)) → IsFrontSaid (Err s) a c steps → IsTransactionSaid (Err s) a c steps before now
+transaction_cut a c steps status.SinkFault before now said = inl said
+transaction_cut a c steps status.OutOfMemory before now said = said
+transaction_cut a c steps status.DeviceFault before now said = let no : ⊥ = said in absurd no
+transaction_cut a c steps _ before now said = said
 
 -- before anything was written
-pub transaction_none : (a : List ℕ → Type 0) (steps : List Step) → IsTransactionSaid (Err status.OutOfMemory) a a steps
-transaction_none a steps = record { text = []; told = nothing; taken = λ text had. subst a (sym (append-nil text)) had }
+pub transaction_none : (a : List ℕ → Type 0) (steps : List Step) (before now : Option (List ℕ)) → IsTransactionSaid (Err status.OutOfMemory) a a steps before now
+transaction_none a steps before now = record { text = []; told = nothing; taken = λ text had. subst a (sym (append-nil text)) had }
 
 -- one step more counts by itself
 count_by-cons : (first : Step) (rest : List Step) → count_by is_insert (first ∷ rest) ≡ count_by is_insert (first ∷ []) + count_by is_insert rest
 count_by-cons first rest = sum_by-append (λ x. cond (is_insert x) 1 0) (first ∷ []) rest
 
 -- steps insert as many values as there are inserts among them
-length-inserted : (steps : List Step) → length (inserted steps) ≡ count_by is_insert steps
+pub length-inserted : (steps : List Step) → length (inserted steps) ≡ count_by is_insert steps
 length-inserted [] = refl
 length-inserted (step.Insert text ∷ earlier) =
     let more : length (inserted earlier ++ text ∷ []) ≡ length (inserted earlier) + 1 = length-append (inserted earlier) (text ∷ []) in
@@ -153,7 +129,7 @@ length-inserted (step.Read row ∷ earlier) =
     let flip : count_by is_insert earlier ≡ 0 + count_by is_insert earlier = omega arith in
     length-inserted earlier ∙ flip ∙ sym (count_by-cons (step.Read row) earlier)
 
-count_by-reverse : (steps : List Step) → count_by is_insert (reverse steps) ≡ count_by is_insert steps
+pub count_by-reverse : (steps : List Step) → count_by is_insert (reverse steps) ≡ count_by is_insert steps
 count_by-reverse [] = refl
 count_by-reverse (first ∷ rest) =
     let turned : count_by is_insert (reverse (first ∷ rest)) ≡ count_by is_insert (reverse rest ++ first ∷ []) = ap (count_by is_insert) (reverse-append (first ∷ []) rest) in

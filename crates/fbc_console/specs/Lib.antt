@@ -1,6 +1,13 @@
+pub mod Asking
+pub mod Closing
 pub mod Committing
+pub mod Completing
+pub mod Ending
 pub mod FreshFile
 pub mod Images
+pub mod Making
+pub mod Opening
+pub mod PlayTheorem
 pub mod Saying
 pub mod Script
 pub mod Statuses

@@ -1,10 +1,11 @@
 -- Which lines a sink may have taken, by how a call ended.
-use Rattle.std.specs.Prelude.{◌≡◌, ◌≤◌, ◌++◌, ◌⊎◌, ℕ, List, [], length, take, reverse, Result, Ok, Err}
+use Rattle.std.specs.Prelude.{◌≡◌, ◌≤◌, ◌++◌, ◌⊎◌, ℕ, List, [], length, take, reverse, Option, Result, Ok, Err}
 use Rattle.fbc_outside.specs.Streams.{SinkTakes, SinkTakesSome}
 use Rattle.fbc_script.specs.declared.single.Step.{Step}
 use Rattle.fbc_console.specs.declared.statuses.Status.{Status}
 use Rattle.fbc_console.specs.declared.statuses.Status.TheVariants as status
-use Rattle.fbc_console.specs.Transaction.{step_lines, lines_before_commit, transcript, opening_lines, answer_line, IsTold}
+use Rattle.fbc_console.specs.Committing.{IsCommitted}
+use Rattle.fbc_console.specs.Transaction.{inserted, step_lines, lines_before_commit, transcript, opening_lines, answer_line, IsTold}
 use Rattle.fbc_console.specs.declared.transaction.Answer.TheVariants as answer
 
 -- a text was written whole, or a first part of it where the sink failed, or nothing where there was no memory
@@ -59,13 +60,13 @@ IsFrontSaid (Err status.SinkFault) old new steps = IsCut old new steps
 IsFrontSaid (Err status.OutOfMemory) old new steps = IsStopped old new steps
 IsFrontSaid (Err _) old new steps = ⊥
 
--- the transcript was written whole, or a first part of it; where the device failed, all but the line that answers commit
-abbrev pub IsTransactionSaid : Result (Unit {0}) Status → (List ℕ → Type 0) → (List ℕ → Type 0) → List Step → Type 0
-IsTransactionSaid (Ok done) old new steps = SinkTakes old new (transcript steps)
-IsTransactionSaid (Err status.SinkFault) old new steps = IsCut old new steps
-IsTransactionSaid (Err status.OutOfMemory) old new steps = IsStopped old new steps
-IsTransactionSaid (Err status.DeviceFault) old new steps = SinkTakes old new (lines_before_commit steps)
-IsTransactionSaid (Err _) old new steps = ⊥
+-- the transcript was written whole, or a first part of it; where the device failed, all but the line that answers commit. That line is written only after the commit stands
+abbrev pub IsTransactionSaid : Result (Unit {0}) Status → (List ℕ → Type 0) → (List ℕ → Type 0) → List Step → Option (List ℕ) → Option (List ℕ) → Type 0
+IsTransactionSaid (Ok done) old new steps before now = SinkTakes old new (transcript steps)
+IsTransactionSaid (Err status.SinkFault) old new steps before now = IsCut old new steps ⊎ (SinkTakesSome old new (transcript steps) × IsCommitted before now (inserted (reverse steps)))
+IsTransactionSaid (Err status.OutOfMemory) old new steps before now = IsStopped old new steps
+IsTransactionSaid (Err status.DeviceFault) old new steps before now = SinkTakes old new (lines_before_commit steps)
+IsTransactionSaid (Err _) old new steps before now = ⊥
 
 -- the line that answers commit, which comes only after the pages were written
 abbrev pub IsCommitSaid : Result (Unit {0}) Status → (List ℕ → Type 0) → (List ℕ → Type 0) → List ℕ → Type 0

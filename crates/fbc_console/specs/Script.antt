@@ -12,6 +12,11 @@ abbrev pub HasReadAll : Option (List ℕ) → List ℕ → Type 0
 HasReadAll None text = Unit {0}
 HasReadAll (Some left) text = left ≡ text
 
+-- a source that tells its bytes has none left
+abbrev pub IsReadOut : Option (List ℕ) → Type 0
+IsReadOut None = Unit {0}
+IsReadOut (Some left) = left ≡ []
+
 -- a source has more left than a script may have
 abbrev pub IsTooLong : Option (List ℕ) → Type 0
 IsTooLong None = Unit {0}

@@ -61,9 +61,8 @@ commit_line steps = answer_line (length steps + 3) answer.Ok
 abbrev pub transcript : List Step → List ℕ
 transcript steps = lines_before_commit steps ++ commit_line steps
 
--- the lines that answer a first part of the statements
+-- the lines that answer a first part of the statements, commit not among them
 pub data IsTold (steps : List Step) : List ℕ → Type 0 where
   nothing : IsTold steps []
   attached : IsTold steps (answer_line 1 answer.Ok)
   stepped : (count : ℕ) → count ≤ length steps → IsTold steps (lines_before_commit (take count steps))
-  whole : IsTold steps (transcript steps)

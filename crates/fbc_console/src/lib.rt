@@ -1,21 +1,25 @@
-//! The parts of the console: its words and statuses, the reading of a script, and the play of one
-//! transaction of one attachment over the fresh file.
+//! The top call: it carries out the words of a command line over the file on a device, and ends with
+//! a status.
 #![tactic(auto)]
 
+mod asking;
 mod images;
+mod laws;
+mod making;
+mod opening;
 mod playing;
 mod reading;
 mod statuses;
 mod store;
+mod top_call;
 mod transaction;
 mod words;
 mod writes;
 
-pub use images::is_fresh_file;
-pub use playing::play;
-pub use reading::read_script;
+pub use laws::{
+    a_committed_file_means_the_machine, a_committed_transaction_is_a_play,
+    a_part_of_a_commit_stands_as_a_whole, a_transaction_stands_as_a_whole,
+    an_untouched_file_is_an_empty_play, answers_are_the_machines, the_fresh_file_means_no_rows,
+};
 pub use statuses::Status;
-pub use words::is_command_line;
-
-#[cfg(test)]
-mod tests;
+pub use top_call::{Ended, console, end};

@@ -6,7 +6,7 @@ ghost use Rattle.fbc_outside.specs.Faults.{Rose};
 ghost use Rattle.fbc_script.specs.SingleTransaction.{IsShort, is_insert};
 ghost use Rattle.fbc_console.specs.Transaction.{answer_line, answer_to, inserted, values_after};
 ghost use Rattle.fbc_console.specs.Saying.{IsSaid, IsOpeningSaid, AreStepsSaid, IsFrontSaid, IsTransactionSaid, IsCommitSaid};
-ghost use Rattle.fbc_console.specs.Committing.{Stands};
+ghost use Rattle.fbc_console.specs.Committing.{IsCommitted, Stands};
 
 use crate::statuses::Status;
 use crate::store::Store;
@@ -31,8 +31,9 @@ pub fn play<D: Device, K: Sink>(
     requires count { length steps.now < 4294967293 }
     requires short { AllByRecursion IsShort steps.now }
     requires few { count_by is_insert steps.now ≤ 45 }
-    ensures said { IsTransactionSaid result (K.may_have out.old) (K.may_have out.new) steps.now }
+    ensures said { IsTransactionSaid result (K.may_have out.old) (K.may_have out.new) steps.now (D.bytes device.old) (D.bytes device.new) }
     ensures stands { Stands result (D.bytes device.old) (D.bytes device.new) (inserted (reverse steps.now)) }
+    ensures reach { D.reach device.new ≡ D.reach device.old }
     ensures device_fault { result ≡ Err Status.DeviceFault → Rose (D.faults device.old) (D.faults device.new) }
     ensures device_later { D.faults device.old ≤ D.faults device.new }
     ensures sink_fault { result ≡ Err Status.SinkFault → Rose (K.faults out.old) (K.faults out.new) }
@@ -138,6 +139,8 @@ fn commit<D: Device, K: Sink>(
     requires reach { 262144 ≤ D.reach device.old }
     ensures said { IsCommitSaid result (K.may_have out.old) (K.may_have out.new) (answer_line number Answer.Ok) }
     ensures stands { Stands result (D.bytes device.old) (D.bytes device.new) store }
+    ensures cut { result ≡ Err Status.SinkFault → IsCommitted (D.bytes device.old) (D.bytes device.new) store }
+    ensures reach { D.reach device.new ≡ D.reach device.old }
     ensures device_fault { result ≡ Err Status.DeviceFault → Rose (D.faults device.old) (D.faults device.new) }
     ensures device_later { D.faults device.old ≤ D.faults device.new }
     ensures sink_fault { result ≡ Err Status.SinkFault → Rose (K.faults out.old) (K.faults out.new) }

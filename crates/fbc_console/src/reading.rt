@@ -1,8 +1,8 @@
 //! Reads a script from its source.
 
-ghost use Rattle.std.specs.Prelude.{◌≡◌, ◌≤◌, ◌<◌, ◌⊎◌, length, IfOk, IfErr, OnErr};
+ghost use Rattle.std.specs.Prelude.{◌≡◌, ◌≤◌, ◌<◌, ◌⊎◌, length, IfOk, IfErr, OnOk, OnErr};
 ghost use Rattle.fbc_outside.specs.Faults.{Rose};
-ghost use Rattle.fbc_console.specs.Script.{HasReadAll, IsTooLong, TakesNext, TakesAtMost};
+ghost use Rattle.fbc_console.specs.Script.{HasReadAll, IsReadOut, IsTooLong, TakesNext, TakesAtMost};
 
 use crate::statuses::Status;
 use fbc_outside::Source;
@@ -15,17 +15,18 @@ const SCRIPT_LIMIT: usize = 4_194_304;
 const PIECE: usize = 4096;
 
 /// Reads what `script` has left to its end. A script of more than `SCRIPT_LIMIT` bytes is refused
-/// with `Later` as soon as one byte more was read, and is not kept.
+/// with `SourceLong` as soon as one byte more was read, and is not kept.
 ///
-/// Errors: `SourceFault` where a read was answered Failed, `OutOfMemory`, `Later`.
+/// Errors: `SourceFault` where a read was answered Failed, `OutOfMemory`, `SourceLong`.
 pub fn read_script<S: Source>(alloc: Global, script: &mut S) -> Result<Vec<u8>, Status>
     ensures all { IfOk result (λ text. HasReadAll (S.left script.old) text.items) }
     ensures length { IfOk result (λ text. length text.items ≤ 4194304) }
+    ensures read_out { OnOk result (IsReadOut (S.left script.new)) }
     ensures bounded { TakesAtMost 4194305 (S.left script.old) (S.left script.new) }
-    ensures long { result ≡ Err Status.Later → IsTooLong (S.left script.old) }
+    ensures long { result ≡ Err Status.SourceLong → IsTooLong (S.left script.old) }
     ensures fault { result ≡ Err Status.SourceFault → Rose (S.faults script.old) (S.faults script.new) }
     ensures later { S.faults script.old ≤ S.faults script.new }
-    ensures only { IfErr result (λ e. (e ≡ Status.SourceFault) ⊎ (e ≡ Status.OutOfMemory) ⊎ (e ≡ Status.Later)) }
+    ensures only { IfErr result (λ e. (e ≡ Status.SourceFault) ⊎ (e ≡ Status.OutOfMemory) ⊎ (e ≡ Status.SourceLong)) }
 {
     let mut text = Vec::new(alloc);
     while text.len() <= SCRIPT_LIMIT {
@@ -34,7 +35,7 @@ pub fn read_script<S: Source>(alloc: Global, script: &mut S) -> Result<Vec<u8>, 
             return Ok(text);
         }
     }
-    Err(Status::Later)
+    Err(Status::SourceLong)
 }
 
 /// Reads one piece of at most `room` bytes and adds it to `text`, and says how many bytes it had:
@@ -42,6 +43,7 @@ pub fn read_script<S: Source>(alloc: Global, script: &mut S) -> Result<Vec<u8>, 
 fn read_next<S: Source>(script: &mut S, room: usize, text: &mut Vec<u8>) -> Result<usize, Status>
     requires { 0 < room }
     ensures next { IfOk result (λ n. TakesNext (S.left script.old) (S.left script.new) text.old.items text.new.items n) }
+    ensures end { IfOk result (λ n. n ≡ 0 → IsReadOut (S.left script.new)) }
     ensures bounded { TakesAtMost room (S.left script.old) (S.left script.new) }
     ensures within { IfOk result (λ n. n ≤ room) }
     ensures fault { result ≡ Err Status.SourceFault → Rose (S.faults script.old) (S.faults script.new) }

@@ -8,7 +8,8 @@ use Rattle.fbc_kinds.specs.declared.pages.Flag.TheVariants as flag
 use Rattle.fbc_kinds.specs.declared.pages.State.{State}
 use Rattle.fbc_kinds.specs.declared.pages.State.TheVariants as state
 use Rattle.fbc_kinds.specs.declared.snapshots.Snapshot.{Snapshot}
-use Rattle.fbc_kinds.specs.View.{View, size_of, relation_of, data_of, tip_of, state_in, cell_at, cells_per_page, numbers_per_tip, is_top, is_committed_state}
+use Rattle.fbc_kinds.specs.Limits.{cells, tip_numbers}
+use Rattle.fbc_kinds.specs.View.{View, size_of, relation_of, data_of, tip_of, state_in, cell_at, is_top, is_committed_state}
 
 -- A version of a row: the number of the transaction that made it, and its value, None where it is a deletion.
 pub record Version : Type 0 where
@@ -34,7 +35,7 @@ versions_from view (suc count) (Some cell) = version_of cell ∷ versions_from v
 
 -- How many cells each data page of a relation has.
 abbrev pub cells_of : View → ℕ → ℕ
-cells_of view relation = option_map_or (λ (r : Relation). cells_per_page (size_of view) r.length) (relation_of view relation) 0
+cells_of view relation = option_map_or (λ (r : Relation). cells (size_of view) r.length) (relation_of view relation) 0
 
 -- The cell of a row: row numbers count the cells of the relation's data pages in the order of their sequences.
 abbrev pub row_cell : View → ℕ → ℕ → Option Cell
@@ -58,8 +59,8 @@ abbrev pub state_of : View → ℕ → State
 state_of view number =
     unwrap_or
     (option_and_then
-    (λ (tip : ℕ). state_in (view tip) (number % numbers_per_tip (size_of view)))
-    (tip_of view (number / numbers_per_tip (size_of view))))
+    (λ (tip : ℕ). state_in (view tip) (number % tip_numbers (size_of view)))
+    (tip_of view (number / tip_numbers (size_of view))))
     state.Active
 
 -- A snapshot holds its own number and the numbers that were committed.

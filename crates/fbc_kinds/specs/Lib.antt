@@ -1,6 +1,7 @@
 pub mod Chain
 pub mod DataSpelling
 pub mod Edits
+pub mod File
 pub mod Head
 pub mod HeaderSpelling
 pub mod InventorySpelling

@@ -2,7 +2,8 @@
 use Rattle.std.specs.Prelude.{◌≡◌, ◌+◌, ◌*◌, ◌<◌, ℕ, true, false, Some}
 use Rattle.fbc_kinds.specs.declared.pages.Cell.{Cell}
 use Rattle.fbc_kinds.specs.declared.pages.State.{State}
-use Rattle.fbc_kinds.specs.View.{View, size_of, next_of, cell_at, state_in, is_taken, is_empty, is_back, is_active_state, is_committed_state, numbers_per_tip}
+use Rattle.fbc_kinds.specs.Limits.{tip_numbers}
+use Rattle.fbc_kinds.specs.View.{View, size_of, next_of, cell_at, state_in, is_taken, is_empty, is_back, is_active_state, is_committed_state}
 use Rattle.fbc_kinds.specs.Reach.{Role, DataRole, TipRole, Reaches, shows_role, LinksTo}
 use Rattle.fbc_kinds.specs.Chain.{state_of}
 
@@ -43,7 +44,7 @@ pub record IsSound (view : View) : Type 0 where
       → Reaches view (TipRole sequence) page
       → state_in (view page) place ≡ Some state
       → is_active_state state ≡ false
-      → sequence * numbers_per_tip (size_of view) + place < next_of view
+      → sequence * tip_numbers (size_of view) + place < next_of view
   -- Below the top of a chain every version is committed.
   pub below : (relation page cell back_page back_cell : ℕ) (version back : Cell)
       → LinksTo view relation page cell version back_page back_cell

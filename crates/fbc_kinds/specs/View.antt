@@ -1,5 +1,5 @@
 -- A view of a file: which page stands where, and what the pages name.
-use Rattle.std.specs.Prelude.{ℕ, ◌+◌, ◌-◌, ◌*◌, ◌/◌, ◌%◌, ◌==◌, Bool, true, false, nat_lt, Option, Some, None, if◌then◌else◌, slice_get}
+use Rattle.std.specs.Prelude.{ℕ, ◌+◌, ◌*◌, ◌/◌, ◌%◌, ◌==◌, Bool, true, false, nat_lt, Option, Some, None, if◌then◌else◌, slice_get}
 use Rattle.std.specs.Option.{option_and_then, option_map_or}
 use Rattle.fbc_kinds.specs.declared.pages.Page.{Page}
 use Rattle.fbc_kinds.specs.declared.pages.Page.TheVariants as kind
@@ -10,31 +10,16 @@ use Rattle.fbc_kinds.specs.declared.pages.Flag.{Flag}
 use Rattle.fbc_kinds.specs.declared.pages.Flag.TheVariants as flag
 use Rattle.fbc_kinds.specs.declared.pages.State.{State}
 use Rattle.fbc_kinds.specs.declared.pages.State.TheVariants as state
+use Rattle.fbc_kinds.specs.Limits.{inventory_bits, slots}
 
 -- A view gives each page number the page that stands there, or None where the bytes there spell no page. Past the
 -- file's end all pages are blank.
 abbrev pub View : Type 0
 View = ℕ → Option Page
 
--- How many pages one page inventory covers, by the bytes of a page.
-abbrev pub pages_per_inventory : ℕ → ℕ
-pages_per_inventory size = (size - 16) * 8
-
--- How many numbers stand in one transaction inventory page.
-abbrev pub numbers_per_tip : ℕ → ℕ
-numbers_per_tip size = 4 * (size - 16)
-
--- How many slots a pointer page has.
-abbrev pub slots_per_pointer : ℕ → ℕ
-slots_per_pointer size = (size - 16) / 4
-
--- How many cells a data page has, by the bytes of a page and the greatest length of a value.
-abbrev pub cells_per_page : ℕ → ℕ → ℕ
-cells_per_page size length = (size - 16) / (12 + length)
-
 -- Where the page inventory of a sequence stands: the first is page 1, each other one the first page that it covers.
 abbrev pub inventory_page : ℕ → ℕ → ℕ
-inventory_page size sequence = if sequence == 0 then 1 else sequence * pages_per_inventory size
+inventory_page size sequence = if sequence == 0 then 1 else sequence * inventory_bits size
 
 -- The header, where page 0 is one.
 abbrev pub header_in : Option Page → Option Header
@@ -102,8 +87,8 @@ named_in pointer slot = option_and_then unless_zero (slot_in pointer slot)
 abbrev pub data_of : View → ℕ → ℕ → Option ℕ
 data_of view relation sequence =
     option_and_then
-    (λ (pointer : ℕ). named_in (view pointer) (sequence % slots_per_pointer (size_of view)))
-    (pointer_of view relation (sequence / slots_per_pointer (size_of view)))
+    (λ (pointer : ℕ). named_in (view pointer) (sequence % slots (size_of view)))
+    (pointer_of view relation (sequence / slots (size_of view)))
 
 -- A page is taken where the page inventory that covers it has its mark. Where that inventory is not counted, or is
 -- not spelled, it is not taken.
@@ -115,8 +100,8 @@ abbrev pub is_taken : View → ℕ → Bool
 is_taken view page =
     is_marked
     (option_and_then
-    (λ (inventory : ℕ). mark_in (view inventory) (page % pages_per_inventory (size_of view)))
-    (inventory_of view (page / pages_per_inventory (size_of view))))
+    (λ (inventory : ℕ). mark_in (view inventory) (page % inventory_bits (size_of view)))
+    (inventory_of view (page / inventory_bits (size_of view))))
 
 -- What a cell holds: nothing, a row's newest version, or an older value.
 abbrev pub is_empty : Flag → Bool

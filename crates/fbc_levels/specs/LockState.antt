@@ -1,5 +1,5 @@
 -- The state of the locks: a list of requests in the order of asking.
-use Rattle.std.specs.Prelude.{◌≡◌, ◌≢◌, ℕ, ◌≤◌, Bool, true, false, not, ◌&&◌, ◌==◌, nat_lt, if◌then◌else◌, List, length, Option, Some, None, is_some, IsTrue, IsSome, IsNone}
+use Rattle.std.specs.Prelude.{◌≡◌, ◌≢◌, ℕ, ◌≤◌, Bool, true, false, not, ◌&&◌, ◌==◌, nat_lt, if◌then◌else◌, List, length, Option, is_some, IsTrue, IsSome, IsNone}
 use Rattle.std.specs.Option.{option_map_or}
 use Rattle.std.specs.List.{All, AllPairs, Contains, find, filter, list_any, reduce}
 use Rattle.fbc_levels.specs.declared.levels.Level.{Level}

@@ -1,12 +1,12 @@
 -- An owner is dead by all of its requests where it is by one.
-use Rattle.std.proofs.Common.{◌≡◌, ℕ, ◌<◌, ◌≤◌, Bool, true, false, not, ◌||◌, ◌&&◌, ◌==◌, if◌then◌else◌, ◌⊎◌, inl, inr, List, [], ◌∷◌, map, length, get_or, Option, Some, None, IfSome, nat_lt, refl, sym, ◌∙◌, ap, subst, arith}
-use Rattle.std.specs.List.{All, AllPairs, filter, list_any, reduce, fold}
+use Rattle.std.proofs.Common.{◌≡◌, ℕ, ◌<◌, ◌≤◌, Bool, true, false, ◌⊎◌, inl, inr, List, [], ◌∷◌, map, length, get_or, IfSome, refl, sym, ◌∙◌, ap, arith}
+use Rattle.std.specs.List.{All, filter, list_any, reduce}
 use Rattle.std.proofs.lemmas.Bool.{cases_lt}
 use Rattle.std.proofs.lemmas.Bool.Decides.{nat_tests}
 use Rattle.std.proofs.lemmas.List.{get_or_default}
 use Rattle.std.proofs.lemmas.List.Elements.{All-head, All-tail, All-filter, filter_passes}
 use Rattle.fbc_levels.specs.declared.resources.Request.{Request}
-use Rattle.fbc_levels.specs.LockState.{LockState, IsLawful, IsDead, is_alive_of, is_dead, stands_in_way, holder_of, dead_of, lesser, ShareFate}
+use Rattle.fbc_levels.specs.LockState.{LockState, IsLawful, IsDead, is_alive_of, is_dead, dead_of, lesser}
 use Rattle.fbc_levels.proofs.Least.{reduce-chosen}
 use Rattle.fbc_lock_table.specs.Effects.{of_dead, died}
 

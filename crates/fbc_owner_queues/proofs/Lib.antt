@@ -7,3 +7,6 @@ mod Through
 mod Purged
 mod Turned
 mod Census
+mod Raises
+mod Settled
+mod Ordered

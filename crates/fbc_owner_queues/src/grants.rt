@@ -54,9 +54,9 @@ fn first_of(table: &LockTable, owner: u32) -> Option<Request>
     ensures { result ≡ spec.first_of table.now owner }
 {
     for k in 0..table.used() {
-        let request = table.request(k);
-        if request.owner == owner {
-            return Some(request);
+        let first = table.request(k);
+        if first.owner == owner {
+            return Some(first);
         }
     }
     None

@@ -67,6 +67,7 @@ fn circles_of_waiting_owners(rt: HostRuntime) -> Result<(), Fail> {
         ask(&rt, &mut table, 1, transaction(2), Level::Sr),
         Asked::Queued
     );
+    // a wait that meets no circle
     assert!(rt; circle(&rt, &table, 1).is_none());
     assert_eq!(rt;
         ask(&rt, &mut table, 4, transaction(1), Level::Sr),
@@ -76,6 +77,7 @@ fn circles_of_waiting_owners(rt: HostRuntime) -> Result<(), Fail> {
         ask(&rt, &mut table, 2, transaction(1), Level::Sr),
         Asked::Queued
     );
+    // a circle of two, and an owner that waits for it from outside
     assert_eq!(rt; circle(&rt, &table, 2), Some(Cycle::new(&[1, 2])));
     assert!(rt; circle(&rt, &table, 4).is_none());
     table.withdraw(2);
@@ -87,6 +89,7 @@ fn circles_of_waiting_owners(rt: HostRuntime) -> Result<(), Fail> {
         ask(&rt, &mut table, 3, transaction(1), Level::Sr),
         Asked::Queued
     );
+    // a circle of three, which ends with the death of one
     assert_eq!(rt; circle(&rt, &table, 3), Some(Cycle::new(&[1, 2, 3])));
     assert!(rt; circle(&rt, &table, 4).is_none());
     table.die(3);

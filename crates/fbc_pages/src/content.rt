@@ -2,13 +2,12 @@
 
 ghost use Rattle.std.specs.Prelude.{◌≡◌, ◌+◌, ◌*◌, ◌≤◌, ◌<◌, length, drop, false, OnOk};
 ghost use Rattle.fbc_kinds.specs.Head.{GivesRule, any_below, is_within, is_zeros};
-ghost use Rattle.std.specs.List.{list_all};
 ghost use Rattle.std.specs.Str.{bytes_eq};
 ghost use Rattle.fbc_kinds.specs.Limits.{IsPageSize};
-ghost use Rattle.fbc_kinds.specs.HeaderSpelling.{broken_content, broken_counts, broken_end, broken_front, broken_relations, entry_at, has_bad_count, has_bad_name, has_bad_names, has_bad_next, has_bad_number, has_bad_pointer_count, has_bad_pointers, has_bad_tips, has_bad_value, has_bad_values, has_mark, has_some_bad_pointers, holds_name, is_letter, is_name, is_name_byte, name_in, relation_count_in, repeats_name};
+ghost use Rattle.fbc_kinds.specs.HeaderSpelling.{broken_content, broken_counts, broken_end, broken_front, broken_relations, entry_at, has_bad_count, has_bad_name, has_bad_names, has_bad_next, has_bad_number, has_bad_pointer_count, has_bad_pointers, has_bad_tips, has_bad_value, has_bad_values, has_mark, has_some_bad_pointers, holds_name, name_in, relation_count_in, repeats_name};
 
 use crate::numbers::{is_zeros, read_u16, read_u32};
-use fbc_kinds::Rule;
+use fbc_kinds::{Rule, is_name};
 
 /// Tests the mark, the page size, by what the caller knows of it, and the version.
 pub fn check_front(right_size: bool, bytes: &[u8]) -> Result<(), Rule>
@@ -194,30 +193,6 @@ fn holds_name(entry: &[u8]) -> bool
 {
     let length = entry[0] as usize;
     length <= 15 && is_name(name_in(entry)) && is_zeros(&entry[1 + length..16])
-}
-
-fn is_name(text: &[u8]) -> bool
-    ensures { result ≡ is_name text.now }
-{
-    1 <= text.len() && text.len() <= 15 && is_letter(text[0]) && are_name_bytes(text)
-}
-
-fn are_name_bytes(text: &[u8]) -> bool
-    ensures { result ≡ list_all is_name_byte text.now }
-{
-    text.iter().all(|byte| is_name_byte(*byte))
-}
-
-fn is_letter(byte: u8) -> bool
-    ensures { result ≡ is_letter byte }
-{
-    97 <= byte && byte <= 122
-}
-
-fn is_name_byte(byte: u8) -> bool
-    ensures { result ≡ is_name_byte byte }
-{
-    is_letter(byte) || (48 <= byte && byte <= 57) || byte == 95
 }
 
 fn any_repeated_name(bytes: &[u8]) -> bool

@@ -14,7 +14,8 @@ use Rattle.fbc_script.specs.declared.script.Statement.TheVariants.{Attach, Sweep
 use Rattle.fbc_script.specs.declared.script.Order.{Order}
 use Rattle.fbc_script.specs.declared.script.Order.TheVariants.{Run, Reopen}
 use Rattle.fbc_script.specs.Pieces.{words_of, is_printable, has_single_spaces, is_spaced}
-use Rattle.fbc_script.specs.Words.{read_attachment, is_name, read_name, read_text, read_row, read_count, read_mode, read_level, read_step}
+use Rattle.fbc_kinds.specs.HeaderSpelling.{is_name}
+use Rattle.fbc_script.specs.Words.{read_attachment, read_name, read_text, read_row, read_count, read_mode, read_level, read_step}
 use Rattle.fbc_script.specs.Statements.{◌>>=◌, no_words, one_word, two_words, three_words, read_bare, read_begin, read_insert, read_update, read_delete, read_read, read_scan, read_reserve, read_arguments, read_statement}
 use Rattle.fbc_script.specs.Orders.{read_plain, read_at, read_post, read_steps, read_kill, read_trap, read_lone, read_order_from, read_order, read_line}
 use Rattle.fbc_script.specs.Spelling.{attachment_word, mode_word, step_word, statement_words, order_words, joined, order_text}

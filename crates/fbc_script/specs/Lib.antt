@@ -6,3 +6,4 @@ pub mod Orders
 pub mod Scripts
 pub mod SingleTransaction
 pub mod Spelling
+pub mod WhyText

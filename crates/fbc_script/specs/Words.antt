@@ -3,6 +3,7 @@ use Rattle.std.specs.Prelude.{ℕ, Bool, true, false, ◌==◌, ◌&&◌, ◌||�
 use Rattle.std.specs.List.{list_all}
 use Rattle.std.specs.Option.{ok_or}
 use Rattle.std.specs.Str.{bytes_eq}
+use Rattle.fbc_kinds.specs.HeaderSpelling.{is_name}
 use Rattle.fbc_levels.specs.declared.levels.Level.{Level}
 use Rattle.fbc_levels.specs.declared.levels.Level.TheVariants as level
 use Rattle.fbc_outside.specs.declared.gate.StepName.{StepName}
@@ -26,18 +27,7 @@ is_numbered _ = false
 abbrev pub read_attachment : List ℕ → Result ℕ Why
 read_attachment word = ok_or (attachment_of word) (if is_numbered word then why.Attachment else why.Word)
 
--- the bytes of a name: a to z, 0 to 9 and `_`
-abbrev pub is_letter : ℕ → Bool
-is_letter byte = nat_le 97 byte && nat_le byte 122
-
-abbrev pub is_name_byte : ℕ → Bool
-is_name_byte byte = is_letter byte || is_digit byte || byte == 95
-
--- whether a word is a relation's name: 1 to 15 such bytes, the first a letter
-abbrev pub is_name : List ℕ → Bool
-is_name [] = false
-is_name (first ∷ bytes) = is_letter first && nat_le (length (first ∷ bytes)) 15 && list_all is_name_byte (first ∷ bytes)
-
+-- a relation's name
 abbrev pub read_name : List ℕ → Result (List ℕ) Why
 read_name word = if is_name word then Ok word else Err why.Name
 

@@ -4,6 +4,8 @@ ghost use Rattle.std.specs.Prelude.{◌≡◌};
 ghost use Rattle.fbc_script.specs.declared.faults.ParseFault.TheVariants.{Memory};
 
 use std::alloc::AllocError;
+use std::fmt;
+use std::fmt::{Display, Formatter, Write};
 
 /// Why a line is faulty. The causes are tested in this order; those from `Name` on, and `Word` again,
 /// on one argument after the other.
@@ -25,11 +27,42 @@ pub enum Why {
     Text,
 }
 
+impl Display for Why {
+    ghost use Rattle.std.specs.Prelude.{Some};
+    ghost use Rattle.fbc_script.specs.WhyText.{why_text};
+
+    ghost output = { λ why. Some (why_text why) };
+
+    fn fmt<W: Write>(&self, f: &mut Formatter<W>) -> fmt::Result {
+        f.write_str(match *self {
+            Why::Space => "space",
+            Why::Attachment => "attachment",
+            Why::Word => "word",
+            Why::Count => "count",
+            Why::Name => "name",
+            Why::Number => "number",
+            Why::Text => "text",
+        })
+    }
+}
+
 /// The first faulty line of a script, from 1 on, and its cause.
 #[derive(Clone, Copy, Debug, PartialEq, Eq)]
 pub struct ScriptFault {
     pub line: u32,
     pub why: Why,
+}
+
+impl Display for ScriptFault {
+    ghost use Rattle.std.specs.Prelude.{Some};
+    ghost use Rattle.fbc_script.specs.WhyText.{fault_text};
+
+    ghost output = { λ fault. Some (fault_text fault) };
+
+    fn fmt<W: Write>(&self, f: &mut Formatter<W>) -> fmt::Result {
+        let ScriptFault { line, why } = *self;
+        write!(f, "{line} {why}")
+    }
 }
 
 /// Why a script could not be read.

@@ -18,6 +18,7 @@ mod words;
 
 pub use faults::{ParseFault, ScriptFault, Why};
 pub use laws::{bytes_spell_one_script, lines_have_one_spelling};
+pub use numbers::number;
 pub use parsing::parse;
 pub use printing::print;
 pub use script::{Line, Order, Script, Statement, Text, Trap};

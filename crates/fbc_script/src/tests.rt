@@ -31,127 +31,263 @@ const fn at(line: u32, why: Why) -> Option<ParseFault> {
     Some(ParseFault::Script(ScriptFault { line, why }))
 }
 
-const FAULTY: [(&[u8], Why); 107] = [
-    (b" ", Why::Space),
-    (b" a1 attach", Why::Space),
-    (b"a1 attach ", Why::Space),
-    (b"a1  attach", Why::Space),
-    (b"a1\tattach", Why::Space),
-    (b"a1 attach\r", Why::Space),
-    (b"a1 insert t \x7f", Why::Space),
-    (b"a1 insert t \xc3\xa9", Why::Space),
-    (b" a9 attach", Why::Space),
-    (b"a1 drop  t", Why::Space),
-    (b"a1 attach  now", Why::Space),
-    (b"a1 scan T ", Why::Space),
-    (b"a1 read t  01", Why::Space),
-    (b"a1 insert t @ ", Why::Space),
-    (b"a0 attach", Why::Attachment),
-    (b"a9 attach", Why::Attachment),
-    (b"a10 attach", Why::Attachment),
-    (b"a01 attach", Why::Attachment),
-    (b"post a9 attach", Why::Attachment),
-    (b"step a0 1", Why::Attachment),
-    (b"kill a99", Why::Attachment),
-    (b"trap a00 ask 1", Why::Attachment),
-    (b"post a9 drop", Why::Attachment),
-    (b"a9", Why::Attachment),
-    (b"a9 scan T", Why::Attachment),
-    (b"step a9 0", Why::Attachment),
-    (b"a9 insert t @", Why::Attachment),
-    (b"a attach", Why::Word),
-    (b"a1x attach", Why::Word),
-    (b"A1 attach", Why::Word),
-    (b"attach", Why::Word),
-    (b"runs", Why::Word),
-    (b"post x attach", Why::Word),
-    (b"step x 1", Why::Word),
-    (b"kill x", Why::Word),
-    (b"trap x ask 1", Why::Word),
-    (b"a1 drop", Why::Word),
-    (b"a1 Attach", Why::Word),
-    (b"a1 begin later", Why::Word),
-    (b"a1 reserve t sr", Why::Word),
-    (b"a1 reserve t none", Why::Word),
-    (b"a1 reserve t null", Why::Word),
-    (b"trap a1 asks 1", Why::Word),
-    (b"a1 drop t 0", Why::Word),
-    (b"kill x y", Why::Word),
-    (b"post x scan T", Why::Word),
-    (b"step x 0", Why::Word),
-    (b"trap a1 asks 0", Why::Word),
-    (b"post x insert t @", Why::Word),
-    (b"a1", Why::Count),
-    (b"post", Why::Count),
-    (b"post a1", Why::Count),
-    (b"step", Why::Count),
-    (b"step a1", Why::Count),
-    (b"step a1 1 2", Why::Count),
-    (b"run a1", Why::Count),
-    (b"run a9", Why::Count),
-    (b"kill", Why::Count),
-    (b"kill a1 a2", Why::Count),
-    (b"trap", Why::Count),
-    (b"trap a1 ask", Why::Count),
-    (b"trap a1 asks", Why::Count),
-    (b"trap a1 ask 1 2", Why::Count),
-    (b"reopen now", Why::Count),
-    (b"a1 attach now", Why::Count),
-    (b"a1 begin", Why::Count),
-    (b"a1 begin later now", Why::Count),
-    (b"a1 insert t", Why::Count),
-    (b"a1 insert t a b", Why::Count),
-    (b"a1 insert t @ b", Why::Count),
-    (b"a1 update t 0", Why::Count),
-    (b"a1 read t 01 x", Why::Count),
-    (b"a1 scan", Why::Count),
-    (b"a1 scan T U", Why::Count),
-    (b"a1 reserve t", Why::Count),
-    (b"a1 sweep t", Why::Count),
-    (b"a1 scan T", Why::Name),
-    (b"a1 scan 1t", Why::Name),
-    (b"a1 scan _t", Why::Name),
-    (b"a1 scan t-u", Why::Name),
-    (b"a1 scan abcdefghijklmnop", Why::Name),
-    (b"a1 read T 01", Why::Name),
-    (b"a1 update T 0 x", Why::Name),
-    (b"a1 delete T 0", Why::Name),
-    (b"a1 insert T @", Why::Name),
-    (b"a1 reserve T sr", Why::Name),
-    (b"a1 read t 01", Why::Number),
-    (b"a1 read t 00", Why::Number),
-    (b"a1 read t -1", Why::Number),
-    (b"a1 read t +1", Why::Number),
-    (b"a1 read t 1x", Why::Number),
-    (b"a1 read t 4294967296", Why::Number),
-    (b"a1 delete t 18446744073709551616", Why::Number),
-    (b"a1 update t x y", Why::Number),
-    (b"a1 update t 01 @", Why::Number),
-    (b"step a1 0", Why::Number),
-    (b"step a1 01", Why::Number),
-    (b"step a1 65536", Why::Number),
-    (b"trap a1 ask 0", Why::Number),
-    (b"trap a1 ask 65536", Why::Number),
-    (b"a1 insert t @", Why::Text),
-    (b"a1 update t 0 @", Why::Text),
-    (b"post a8 insert t @", Why::Text),
-    (b"post a8 update t 4294967295 @x", Why::Text),
-    (b"a1 insert t %x", Why::Text),
-    (b"a1 insert abcdefghijklmno @@", Why::Text),
-    (b"a1 update t 1 %%", Why::Text),
+/// Lines whose cause is `Space`: no words with single spaces between them.
+const SPACE: [&[u8]; 32] = [
+    // space
+    b" ",
+    b" a1 attach",
+    b"a1 attach ",
+    b"a1  attach",
+    b"a1\tattach",
+    b"a1 attach\r",
+    b"a1 insert t \x7f",
+    b"a1 insert t \xc3\xa9",
+    // space, attachment
+    b" a9 attach",
+    b"a0  attach",
+    b"post a9  attach",
+    b"kill a99 ",
+    // space, word
+    b"a1 drop  t",
+    b" runs",
+    b"post x  attach",
+    b"a1 begin later ",
+    // space, count
+    b"a1 attach  now",
+    b"a1 begin ",
+    b"step  a1",
+    b"kill a1 a2 ",
+    // space, name
+    b"a1 scan T ",
+    b"a1  scan 1t",
+    b"a1 read T 0 ",
+    b"a1 scan abcdefghijklmnop ",
+    // space, number
+    b"a1 read t  01",
+    b"step a1 0 ",
+    b"a1 delete t -1 ",
+    b" trap a1 ask 65536",
+    // space, text
+    b"a1 insert t @ ",
+    b"a1  insert t @",
+    b"a1 update t 0 @ ",
+    b" post a8 insert t %x",
 ];
+
+/// Lines whose cause is `Attachment`: an `a` with digits that is no attachment.
+const ATTACHMENT: [&[u8]; 29] = [
+    // attachment
+    b"a0 attach",
+    b"a9 attach",
+    b"a10 attach",
+    b"a01 attach",
+    b"post a9 attach",
+    b"step a0 1",
+    b"kill a99",
+    b"trap a00 ask 1",
+    // attachment, word
+    b"a9 drop",
+    b"post a9 drop",
+    b"a10 begin later",
+    b"trap a9 asks 1",
+    // attachment, count
+    b"a9",
+    b"post a0",
+    b"step a9",
+    b"kill a9 a1",
+    b"a9 attach now",
+    // attachment, name
+    b"a9 scan T",
+    b"post a0 scan 1t",
+    b"a10 read T 0",
+    b"a01 delete _t 0",
+    // attachment, number
+    b"step a9 0",
+    b"trap a0 ask 65536",
+    b"a9 read t 01",
+    b"a10 delete t x",
+    // attachment, text
+    b"a9 insert t @",
+    b"a0 update t 0 @",
+    b"post a9 insert t @",
+    b"a01 insert t %x",
+];
+
+/// Lines whose cause is `Word`: an unknown word.
+const WORD: [&[u8]; 35] = [
+    // word
+    b"a attach",
+    b"a1x attach",
+    b"A1 attach",
+    b"attach",
+    b"runs",
+    b"post x attach",
+    b"step x 1",
+    b"kill x",
+    b"trap x ask 1",
+    b"a1 drop",
+    b"a1 Attach",
+    b"a1 begin later",
+    b"a1 reserve t sr",
+    b"a1 reserve t none",
+    b"a1 reserve t null",
+    b"trap a1 asks 1",
+    b"a1 drop t 0",
+    // word, count
+    b"kill x y",
+    b"step x",
+    b"trap x ask",
+    b"post x",
+    // word, name
+    b"post x scan T",
+    b"post x read T 0",
+    b"post a reserve T SR",
+    b"post A1 insert T y",
+    // word, number
+    b"step x 0",
+    b"trap x ask 0",
+    b"post x read t 01",
+    b"trap a1 asks 0",
+    b"trap a1 Ask 65536",
+    b"trap a1 x 01",
+    // word, text
+    b"post x insert t @",
+    b"post x update t 0 @",
+    b"post a insert t @",
+    b"post A1 insert t %x",
+];
+
+/// Lines whose cause is `Count`: too few or too many words.
+const COUNT: [&[u8]; 38] = [
+    // count
+    b"a1",
+    b"post",
+    b"post a1",
+    b"step",
+    b"step a1",
+    b"step a1 1 2",
+    b"run a1",
+    b"run a9",
+    b"kill",
+    b"kill a1 a2",
+    b"trap",
+    b"trap a1 ask",
+    b"trap a1 ask 1 2",
+    b"reopen now",
+    b"a1 attach now",
+    b"a1 begin",
+    b"a1 insert t",
+    b"a1 insert t a b",
+    b"a1 update t 0",
+    b"a1 scan",
+    b"a1 reserve t",
+    b"a1 sweep t",
+    // count, word behind it
+    b"trap a1 asks",
+    b"a1 begin later now",
+    b"a1 reserve t sr now",
+    b"trap a1 asks 1 2",
+    // count, name
+    b"a1 scan T U",
+    b"a1 insert T",
+    b"a1 read T",
+    b"a1 reserve T",
+    // count, number
+    b"a1 read t 01 x",
+    b"step a1 0 1",
+    b"trap a1 ask 0 1",
+    b"a1 update t 01",
+    // count, text
+    b"a1 insert t @ b",
+    b"a1 update t 0 @ b",
+    b"a1 insert t %x y",
+    b"post a1 insert t @ b",
+];
+
+/// Lines whose cause is `Name`: no name.
+const NAME: [&[u8]; 17] = [
+    // name
+    b"a1 scan T",
+    b"a1 scan 1t",
+    b"a1 scan _t",
+    b"a1 scan t-u",
+    b"a1 scan abcdefghijklmnop",
+    // name, number
+    b"a1 read T 01",
+    b"a1 delete T -1",
+    b"a1 update T 01 x",
+    b"a1 read 1t x",
+    // name, text
+    b"a1 insert T @",
+    b"a1 update T 0 @",
+    b"a1 insert _t %x",
+    b"post a8 insert T @",
+    // name, word
+    b"a1 reserve T sr",
+    b"a1 reserve 1t none",
+    b"a1 reserve t- null",
+    b"post a1 reserve T ex",
+];
+
+/// Lines whose cause is `Number`: no number of the range.
+const NUMBER: [&[u8]; 16] = [
+    // number
+    b"a1 read t 01",
+    b"a1 read t 00",
+    b"a1 read t +1",
+    b"a1 read t 1x",
+    b"a1 read t 4294967296",
+    b"a1 delete t 18446744073709551616",
+    b"a1 update t x y",
+    b"step a1 0",
+    b"step a1 01",
+    b"step a1 65536",
+    b"trap a1 ask 0",
+    b"trap a1 ask 65536",
+    // number, text
+    b"a1 update t 01 @",
+    b"a1 update t x @",
+    b"a1 update t -1 %x",
+    b"a1 update t 4294967296 @@",
+];
+
+/// Lines whose cause is `Text`: a text that is too long.
+const TEXT: [&[u8]; 7] = [
+    // text
+    b"a1 insert t @",
+    b"a1 update t 0 @",
+    b"post a8 insert t @",
+    b"post a8 update t 4294967295 @x",
+    b"a1 insert t %x",
+    b"a1 insert abcdefghijklmno @@",
+    b"a1 update t 1 %%",
+];
+
+/// Whether each of these lines alone is faulty by this cause.
+fn are_faulty(alloc: Global, lines: &[&[u8]], why: Why) -> Result<bool, AllocError> {
+    for line in lines {
+        let bytes = spread(alloc, line)?;
+        if bytes.len() > 100_000 || fault_of(alloc, bytes.as_slice(), false) != at(1, why) {
+            return Ok(false);
+        }
+    }
+    Ok(true)
+}
 
 #[test]
 fn faulty_lines_have_their_cause(rt: HostRuntime) -> Result<(), AllocError> {
-    for (line, why) in FAULTY {
-        let bytes = spread(rt.alloc(), line)?;
-        assert!(rt; bytes.len() <= 100_000);
-        assert_eq!(rt;
-            fault_of(rt.alloc(), bytes.as_slice(), false),
-            at(1, why),
-            "{line:?}"
-        );
-    }
+    assert!(rt; are_faulty(rt.alloc(), &SPACE, Why::Space)?);
+    assert!(rt; are_faulty(rt.alloc(), &ATTACHMENT, Why::Attachment)?);
+    assert!(rt; are_faulty(rt.alloc(), &WORD, Why::Word)?);
+    Ok(())
+}
+
+#[test]
+fn faulty_arguments_have_their_cause(rt: HostRuntime) -> Result<(), AllocError> {
+    assert!(rt; are_faulty(rt.alloc(), &COUNT, Why::Count)?);
+    assert!(rt; are_faulty(rt.alloc(), &NAME, Why::Name)?);
+    assert!(rt; are_faulty(rt.alloc(), &NUMBER, Why::Number)?);
+    assert!(rt; are_faulty(rt.alloc(), &TEXT, Why::Text)?);
     Ok(())
 }
 
@@ -188,6 +324,24 @@ fn the_first_faulty_line_counts(rt: HostRuntime) {
         assert!(rt; bytes.len() <= 100_000);
         assert_eq!(rt; fault_of(rt.alloc(), bytes, false), fault, "{bytes:?}");
     }
+}
+
+/// A comment line of so many bytes.
+fn comment(alloc: Global, length: usize) -> Result<Vec<u8>, AllocError> {
+    vec![in alloc; b'#'; length]
+}
+
+#[test]
+fn a_script_of_4_mebibytes_is_read(rt: HostRuntime) -> Result<(), AllocError> {
+    let mut bytes = comment(rt.alloc(), 4_194_300)?;
+    bytes.extend_from_slice(b"\nrun")?;
+    assert!(rt; bytes.len() == 4_194_304);
+    let script = parse(rt.alloc(), bytes.as_slice(), false).ok();
+    assert_eq!(rt;
+        script.map(|script| (script.length, script.lines.len())),
+        Some((2, 1))
+    );
+    Ok(())
 }
 
 /// What a script says in its one line, the second.

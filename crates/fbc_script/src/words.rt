@@ -1,13 +1,12 @@
 //! The words of a script's lines that stand for something.
 
 ghost use Rattle.std.specs.Prelude.{◌≡◌};
-ghost use Rattle.std.specs.List.{list_all};
 ghost use Rattle.fbc_script.specs.Words as spec;
 
 use crate::faults::Why;
-use crate::numbers::{are_digits, is_digit, number};
+use crate::numbers::{are_digits, number};
 use crate::script::Text;
-use fbc_kinds::{Name, Padded};
+use fbc_kinds::{Name, Padded, is_name};
 use fbc_levels::Level;
 use fbc_outside::StepName;
 
@@ -54,34 +53,6 @@ pub fn read_name(word: &[u8]) -> Result<Name, Why>
     } else {
         Err(Why::Name)
     }
-}
-
-/// Whether a word is a relation's name.
-fn is_name(word: &[u8]) -> bool
-    ensures { result ≡ spec.is_name word.now }
-{
-    match word {
-        [] => false,
-        [first, ..] => is_letter(*first) && word.len() <= 15 && are_name_bytes(word),
-    }
-}
-
-fn are_name_bytes(word: &[u8]) -> bool
-    ensures { result ≡ list_all spec.is_name_byte word.now }
-{
-    word.iter().all(|byte| is_name_byte(*byte))
-}
-
-fn is_letter(byte: u8) -> bool
-    ensures { result ≡ spec.is_letter byte }
-{
-    b'a' <= byte && byte <= b'z'
-}
-
-fn is_name_byte(byte: u8) -> bool
-    ensures { result ≡ spec.is_name_byte byte }
-{
-    is_letter(byte) || is_digit(byte) || byte == b'_'
 }
 
 /// The text of a value.

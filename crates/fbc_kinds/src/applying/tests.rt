@@ -185,6 +185,10 @@ fn page_inventories(rt: HostRuntime) -> Result<(), ApplyFault> {
         &shape,
         &mut page,
         &[
+            (Edit::FreePage { page: 5 }, false),
+            (Edit::SetNext { next: 1 }, false),
+            (Edit::AddTip { page: 9 }, false),
+            (Edit::AddInventory, false),
             (Edit::TakePage { page: 5 }, false),
             (
                 Edit::Format {
@@ -210,6 +214,7 @@ fn page_inventories(rt: HostRuntime) -> Result<(), ApplyFault> {
             (Edit::TakePage { page: 16127 }, true),
             (Edit::TakePage { page: 16128 }, false),
             (Edit::FreePage { page: 8063 }, false),
+            (Edit::FreePage { page: 16128 }, false),
             (Edit::FreePage { page: 8064 }, false),
             (Edit::FreePage { page: 8065 }, true),
             (Edit::FreePage { page: 8067 }, true),
@@ -235,6 +240,9 @@ fn pointer_pages(rt: HostRuntime) -> Result<(), ApplyFault> {
         &shape,
         &mut page,
         &[
+            (Edit::Unname { slot: 0 }, false),
+            (Edit::ClearCell { cell: 0 }, false),
+            (POINTER, false),
             (Edit::Name { slot: 0, page: 4 }, false),
             (
                 Edit::Format {

@@ -1,5 +1,4 @@
 use Rattle.std.proofs.Common.{arith}
-use Rattle.fbc_levels.specs.LockState.{IsDead}
 use Rattle.fbc_lock_table.proofs.Fate.{died_is_dead}
 use Rattle.fbc_lock_table.proofs.Lawful.{died_lawful}
 use Rattle.fbc_lock_table.proofs.table.LockTable.die.Goals as goal

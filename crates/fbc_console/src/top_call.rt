@@ -1,0 +1,227 @@
+//! The top call: words, file, script, play, and the status by which it ends.
+
+ghost use Rattle.std.specs.Prelude.{◌≡◌, ◌≤◌, ◌⊎◌, List, ℕ, OnOk};
+ghost use Rattle.fbc_outside.specs.Faults.{Rose};
+ghost use Rattle.fbc_outside.specs.Streams.{SinkTakesSome};
+ghost use Rattle.fbc_console.specs.Statuses.{status_line};
+ghost use Rattle.fbc_console.specs.Script.{IsReadOut, TakesAtMost};
+ghost use Rattle.fbc_console.specs.Words.{SpellsPlay};
+ghost use Rattle.fbc_console.specs.Asking.{IsPlayable};
+ghost use Rattle.fbc_console.specs.Opening.{IsFreshDevice};
+ghost use Rattle.fbc_console.specs.Closing.{IsClosed, IsLineWritten, Took};
+ghost use Rattle.fbc_console.specs.Completing.{IsCompleted, IsPlainCreate, IsPlainPlay, NothingFailed};
+ghost use Rattle.fbc_console.specs.Ending.{HasEnded, IsCarriedOut, IsPlayDone, IsFreshPlayed};
+
+use crate::asking::read_asked;
+use crate::laws::{
+    a_committed_transaction_is_a_play, a_transaction_stands_as_a_whole,
+    an_untouched_file_is_an_empty_play, answers_are_the_machines, the_fresh_file_means_no_rows,
+};
+use crate::making::create;
+use crate::opening::{is_fresh, open};
+use crate::playing::play;
+use crate::statuses::{MEMORY_LINE, Status};
+use crate::words::{Command, command_of};
+use fbc_outside::{Device, Sink, Source, write_all};
+use fbc_script::{SingleTransaction, bytes_spell_one_script};
+use std::alloc::Global;
+
+/// How a call of the console ended, and the device that it was given.
+#[derive(Debug, Drop)]
+pub struct Ended<D> {
+    pub status: Status,
+    pub device: D,
+}
+
+/// Carries out the words, without the file's name, over the file on the device, and hands the device
+/// back. `play` reads its script from `script`, and `create` makes a file where nothing stands; all lines are written to `out`, and last that of the
+/// status where it has one (docs/STATUSES.md).
+pub fn console<D: Device, S: Source, K: Sink>(
+    alloc: Global,
+    words: &[String],
+    device: D,
+    script: &mut S,
+    out: &mut K,
+) -> Ended<D>
+    requires reach { 262144 ≤ D.reach device }
+    ensures ended { HasEnded words.now (S.left script.old) (K.may_have out.old) (K.may_have out.new) (D.bytes device) (D.bytes result.device) result.status }
+    ensures device_fault { result.status ≡ Status.DeviceFault → Rose (D.faults device) (D.faults result.device) }
+    ensures source_fault { result.status ≡ Status.SourceFault → Rose (S.faults script.old) (S.faults script.new) }
+    ensures sink_fault { result.status ≡ Status.SinkFault → Rose (K.faults out.old) (K.faults out.new) }
+    ensures bounded { TakesAtMost 4194305 (S.left script.old) (S.left script.new) }
+    ensures read_out { result.status ≡ Status.Ok → SpellsPlay words.now → IsReadOut (S.left script.new) }
+    ensures unread { (SpellsPlay words.now → ⊥) → S.left script.new ≡ S.left script.old }
+    ensures reach { D.reach result.device ≡ D.reach device }
+    ensures device_later { D.faults device ≤ D.faults result.device }
+    ensures source_later { S.faults script.old ≤ S.faults script.new }
+    ensures sink_later { K.faults out.old ≤ K.faults out.new }
+    ensures plays { NothingFailed (D.faults device) (D.faults result.device) (S.faults script.old) (S.faults script.new) (K.faults out.old) (K.faults out.new)
+        → IsPlainPlay words.now (S.left script.old) (D.bytes device) → IsCompleted result.status }
+    ensures makes { NothingFailed (D.faults device) (D.faults result.device) (S.faults script.old) (S.faults script.new) (K.faults out.old) (K.faults out.new)
+        → IsPlainCreate words.now (D.bytes device) → IsCompleted result.status }
+{
+    bytes_spell_one_script();
+    the_fresh_file_means_no_rows();
+    let mut device = device;
+    let status = run(alloc, words, &mut device, script, out);
+    Ended { status, device }
+}
+
+/// Carries out the words and writes the line of the status.
+fn run<D: Device, S: Source, K: Sink>(
+    alloc: Global,
+    words: &[String],
+    device: &mut D,
+    script: &mut S,
+    out: &mut K,
+) -> Status
+    requires reach { 262144 ≤ D.reach device.old }
+    ensures ended { HasEnded words.now (S.left script.old) (K.may_have out.old) (K.may_have out.new) (D.bytes device.old) (D.bytes device.new) result }
+    ensures device_fault { result ≡ Status.DeviceFault → Rose (D.faults device.old) (D.faults device.new) }
+    ensures source_fault { result ≡ Status.SourceFault → Rose (S.faults script.old) (S.faults script.new) }
+    ensures sink_fault { result ≡ Status.SinkFault → Rose (K.faults out.old) (K.faults out.new) }
+    ensures bounded { TakesAtMost 4194305 (S.left script.old) (S.left script.new) }
+    ensures read_out { result ≡ Status.Ok → SpellsPlay words.now → IsReadOut (S.left script.new) }
+    ensures unread { (SpellsPlay words.now → ⊥) → S.left script.new ≡ S.left script.old }
+    ensures reach { D.reach device.new ≡ D.reach device.old }
+    ensures device_later { D.faults device.old ≤ D.faults device.new }
+    ensures source_later { S.faults script.old ≤ S.faults script.new }
+    ensures sink_later { K.faults out.old ≤ K.faults out.new }
+{
+    let outcome = carry_out(alloc, words, device, script, out);
+    end(alloc, outcome, out)
+}
+
+/// Carries out the words.
+fn carry_out<D: Device, S: Source, K: Sink>(
+    alloc: Global,
+    words: &[String],
+    device: &mut D,
+    script: &mut S,
+    out: &mut K,
+) -> Result<(), Status>
+    requires reach { 262144 ≤ D.reach device.old }
+    ensures done { (told : List ℕ) × IsCarriedOut words.now (S.left script.old) (D.bytes device.old) (D.bytes device.new) result told × Took result (K.may_have out.old) (K.may_have out.new) told }
+    ensures device_fault { result ≡ Err Status.DeviceFault → Rose (D.faults device.old) (D.faults device.new) }
+    ensures source_fault { result ≡ Err Status.SourceFault → Rose (S.faults script.old) (S.faults script.new) }
+    ensures sink_fault { result ≡ Err Status.SinkFault → Rose (K.faults out.old) (K.faults out.new) }
+    ensures bounded { TakesAtMost 4194305 (S.left script.old) (S.left script.new) }
+    ensures read_out { OnOk result (SpellsPlay words.now → IsReadOut (S.left script.new)) }
+    ensures unread { (SpellsPlay words.now → ⊥) → S.left script.new ≡ S.left script.old }
+    ensures reach { D.reach device.new ≡ D.reach device.old }
+    ensures device_later { D.faults device.old ≤ D.faults device.new }
+    ensures source_later { S.faults script.old ≤ S.faults script.new }
+    ensures sink_later { K.faults out.old ≤ K.faults out.new }
+{
+    match command_of(alloc, words) {
+        Ok(Some(Command::Play)) => play_file(alloc, device, script, out),
+        Ok(Some(Command::Create { size, relations })) => {
+            create(alloc, size, relations.items(), device, out)
+        }
+        Ok(None) => Err(Status::Usage),
+        Err(_) => Err(Status::OutOfMemory),
+    }
+}
+
+/// Opens the file, reads the script, and plays what it asks for where the file is the fresh file.
+fn play_file<D: Device, S: Source, K: Sink>(
+    alloc: Global,
+    device: &mut D,
+    script: &mut S,
+    out: &mut K,
+) -> Result<(), Status>
+    requires reach { 262144 ≤ D.reach device.old }
+    ensures done { (told : List ℕ) × IsPlayDone (S.left script.old) (D.bytes device.old) (D.bytes device.new) result told × Took result (K.may_have out.old) (K.may_have out.new) told }
+    ensures device_fault { result ≡ Err Status.DeviceFault → Rose (D.faults device.old) (D.faults device.new) }
+    ensures source_fault { result ≡ Err Status.SourceFault → Rose (S.faults script.old) (S.faults script.new) }
+    ensures sink_fault { result ≡ Err Status.SinkFault → Rose (K.faults out.old) (K.faults out.new) }
+    ensures bounded { TakesAtMost 4194305 (S.left script.old) (S.left script.new) }
+    ensures read_out { OnOk result (IsReadOut (S.left script.new)) }
+    ensures reach { D.reach device.new ≡ D.reach device.old }
+    ensures device_later { D.faults device.old ≤ D.faults device.new }
+    ensures source_later { S.faults script.old ≤ S.faults script.new }
+    ensures sink_later { K.faults out.old ≤ K.faults out.new }
+{
+    if let Err(status) = open(device) {
+        return Err(status);
+    }
+    let asked = match read_asked(alloc, script) {
+        Ok(asked) => asked,
+        Err(status) => return Err(status),
+    };
+    match is_fresh(alloc, device) {
+        Ok(true) => play_asked(alloc, &asked, device, out),
+        Ok(false) => Err(Status::Later),
+        Err(status) => Err(status),
+    }
+}
+
+/// Plays what a script asks for.
+fn play_asked<D: Device, K: Sink>(
+    alloc: Global,
+    asked: &SingleTransaction,
+    device: &mut D,
+    out: &mut K,
+) -> Result<(), Status>
+    requires reach { 262144 ≤ D.reach device.old }
+    requires playable { IsPlayable asked.now }
+    requires fresh { IsFreshDevice (D.bytes device.old) }
+    ensures played { (told : List ℕ) × IsFreshPlayed result asked.now told (D.bytes device.old) (D.bytes device.new) × Took result (K.may_have out.old) (K.may_have out.new) told }
+    ensures device_fault { result ≡ Err Status.DeviceFault → Rose (D.faults device.old) (D.faults device.new) }
+    ensures device_later { D.faults device.old ≤ D.faults device.new }
+    ensures sink_fault { result ≡ Err Status.SinkFault → Rose (K.faults out.old) (K.faults out.new) }
+    ensures sink_later { K.faults out.old ≤ K.faults out.new }
+    ensures reach { D.reach device.new ≡ D.reach device.old }
+{
+    answers_are_the_machines();
+    an_untouched_file_is_an_empty_play();
+    a_committed_transaction_is_a_play();
+    a_transaction_stands_as_a_whole();
+    match asked {
+        SingleTransaction::Steps(steps) => play(alloc, steps.items(), device, out),
+        SingleTransaction::Absent => Ok(()),
+    }
+}
+
+/// Writes the line of the status, where it has one, and says by which status the call ends.
+pub fn end<K: Sink>(alloc: Global, outcome: Result<(), Status>, out: &mut K) -> Status
+    ensures closed { IsClosed outcome (K.may_have out.old) (K.may_have out.new) result }
+    ensures fault { result ≡ Status.SinkFault → (outcome ≡ Err Status.SinkFault) ⊎ Rose (K.faults out.old) (K.faults out.new) }
+    ensures same { (result ≡ Status.DeviceFault) ⊎ (result ≡ Status.SourceFault) → outcome ≡ Err result }
+    ensures well { result ≡ Status.Ok → (outcome ≡ Ok tt) ⊎ (outcome ≡ Err Status.Ok) }
+    ensures later { K.faults out.old ≤ K.faults out.new }
+{
+    match outcome {
+        Ok(()) => Status::Ok,
+        Err(Status::SinkFault) => Status::SinkFault,
+        Err(Status::OutOfMemory) => end_without_memory(out),
+        Err(status) => match status.line(alloc) {
+            Ok(line) => end_with(status, line.as_bytes(), out),
+            Err(_) => end_without_memory(out),
+        },
+    }
+}
+
+/// Writes the line of a status.
+fn end_with<K: Sink>(status: Status, line: &[u8], out: &mut K) -> Status
+    requires { line.now ≡ status_line status }
+    ensures written { IsLineWritten (K.may_have out.old) (K.may_have out.new) status result }
+    ensures fault { result ≡ Status.SinkFault → (status ≡ Status.SinkFault) ⊎ Rose (K.faults out.old) (K.faults out.new) }
+    ensures only { (result ≡ status) ⊎ (result ≡ Status.SinkFault) }
+    ensures later { K.faults out.old ≤ K.faults out.new }
+{
+    match write_all(out, line) {
+        Ok(()) => status,
+        Err(_) => Status::SinkFault,
+    }
+}
+
+/// Writes the line of a call that had no memory, as far as the sink takes it.
+fn end_without_memory<K: Sink>(out: &mut K) -> Status
+    ensures status { result ≡ Status.OutOfMemory }
+    ensures part { SinkTakesSome (K.may_have out.old) (K.may_have out.new) (status_line Status.OutOfMemory) }
+    ensures later { K.faults out.old ≤ K.faults out.new }
+{
+    let _ = write_all(out, MEMORY_LINE);
+    Status::OutOfMemory
+}

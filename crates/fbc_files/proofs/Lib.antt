@@ -1,0 +1,12 @@
+pub mod FirstPage
+pub mod HeaderLast
+pub mod Making
+pub mod NewEntries
+pub mod NewFits
+pub mod NewSound
+pub mod PageWrites
+pub mod ReachedRoles
+pub mod RelationTests
+pub mod Recognition
+pub mod RowlessViews
+pub mod ShownShapes

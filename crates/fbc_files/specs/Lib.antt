@@ -1,0 +1,6 @@
+pub mod Creating
+pub mod NewPages
+pub mod Pages
+pub mod RelationTests
+pub mod Roles
+pub mod Shapes

@@ -1,0 +1,16 @@
+pub mod Spelled
+pub mod Shows
+pub mod Members
+pub mod NoRule
+pub mod SameRoles
+pub mod HeaderNamings
+pub mod DataNamings
+pub mod Reached
+pub mod Chained
+pub mod Undamaged
+pub mod SoundView
+pub mod SoundLinks
+pub mod SoundPages
+pub mod Contents
+pub mod Rows
+pub mod Kept
