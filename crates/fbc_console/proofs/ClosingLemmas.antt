@@ -1,5 +1,5 @@
 -- What a sink has taken after a command was carried out and the line of the status was written.
-use Rattle.std.proofs.Common.{◌≡◌, ◌≤◌, ◌++◌, ℕ, List, [], length, take, Ok, Err, refl, ap, sym, subst, ◌∙◌, append_assoc}
+use Rattle.std.proofs.Common.{◌≤◌, ◌++◌, ℕ, List, [], length, take, Ok, Err, sym, subst}
 use Rattle.std.proofs.lemmas.List.{append-nil}
 use Rattle.fbc_outside.specs.Streams.{SinkTakes, SinkTakesSome}
 use Rattle.fbc_console.specs.declared.statuses.Status.{Status}

@@ -1,5 +1,5 @@
 -- The words of a command line, taken apart.
-use Rattle.std.proofs.Common.{◌≡◌, ◌<◌, ◌≤◌, ℕ, List, [], ◌∷◌, length, drop, get_or, Option, Some, None, Ok, Err, refl, ap, sym, subst, ◌∙◌, arith}
+use Rattle.std.proofs.Common.{◌≡◌, ◌<◌, ◌≤◌, ℕ, List, [], ◌∷◌, length, drop, get_or, Option, Some, None, Ok, Err, ap, sym, subst, ◌∙◌, arith}
 use Rattle.std.specs.Prelude.{Result, IfOk, codes, string_bytes}
 use Rattle.std.specs.Global.{Global}
 use Rattle.std.specs.declared.alloc.AllocError.{AllocError}
@@ -7,7 +7,7 @@ use Rattle.std.specs.declared.string.String.{String}
 use Rattle.fbc_files.specs.declared.relations.NewRelation.{NewRelation}
 use Rattle.fbc_console.specs.declared.words.Command.{Command}
 use Rattle.fbc_console.specs.declared.words.Command.TheVariants as command
-use Rattle.fbc_console.specs.Words.{SpellsFile, SpellsPlay, SpellsCreate, SpellsCommand, TellsCommand, TellsFile, IsCommandLine}
+use Rattle.fbc_console.specs.Words.{SpellsFile, TellsCommand, TellsFile, IsCommandLine}
 
 pub one_word : {A : Type 0} (words : List A) (word : A) → 1 ≤ length words → length words < 2 → word ≡ get_or words 0 word → words ≡ word ∷ []
 one_word [] word some few is = absurd (omega arith)

@@ -1,15 +1,13 @@
 -- A call that nothing stands in the way of is carried out, but for want of memory.
-use Rattle.std.proofs.Common.{◌≡◌, ◌<◌, ◌≤◌, ◌⊎◌, inl, inr, ℕ, Bool, true, false, List, [], ◌∷◌, length, take, Option, Some, None, Ok, Err, refl, sym, subst, ◌∙◌, arith}
+use Rattle.std.proofs.Common.{◌≡◌, ◌≤◌, inl, inr, ℕ, Bool, false, List, [], ◌∷◌, length, Option, Some, None, Ok, Err, refl, sym, subst, ◌∙◌, arith}
 use Rattle.std.specs.Global.{Global}
 use Rattle.std.specs.declared.string.String.{String}
-use Rattle.fbc_outside.specs.Faults.{Rose}
 use Rattle.fbc_script.specs.declared.script.Script.{Script}
-use Rattle.fbc_script.specs.declared.faults.ScriptFault.{ScriptFault}
 use Rattle.fbc_script.specs.declared.single.SingleTransaction.{SingleTransaction}
 use Rattle.fbc_script.specs.declared.single.SingleTransaction.TheVariants.{Absent, Steps}
 use Rattle.fbc_script.specs.declared.single.Step.{Step}
 use Rattle.fbc_script.specs.Scripts.{IsScript, first_script_fault}
-use Rattle.fbc_script.specs.SingleTransaction.{Asks, IsSingleTransaction}
+use Rattle.fbc_script.specs.SingleTransaction.{IsSingleTransaction}
 use Rattle.fbc_files.specs.declared.relations.NewRelation.{NewRelation}
 use Rattle.fbc_console.specs.declared.statuses.Status.{Status}
 use Rattle.fbc_console.specs.declared.statuses.Status.TheVariants as status
@@ -17,11 +15,11 @@ use Rattle.fbc_console.specs.declared.words.Command.TheVariants as command
 use Rattle.fbc_console.specs.Words.{SpellsPlay, SpellsCreate}
 use Rattle.fbc_console.specs.Images.{IsFreshFile}
 use Rattle.fbc_console.specs.Opening.{WhyNotOpened, broken_opening}
-use Rattle.fbc_console.specs.Asking.{SpellsAsked, SpellsOther, WhyNotSpelled, HasRefused, WhyNotAsked}
+use Rattle.fbc_console.specs.Asking.{SpellsAsked, WhyNotSpelled, HasRefused, WhyNotAsked}
 use Rattle.fbc_console.specs.Closing.{Outcome, EndsWith, Closes, written, cut, short}
 use Rattle.fbc_console.specs.Making.{WhyNotMade, IsMade, IsCreateDone, unmade, made}
 use Rattle.fbc_console.specs.Ending.{IsTransactionTold, IsPlayed, WhyNotPlayed, fault, memory, refused, unasked, other, IsPlayDone, stopped, played, IsCarriedOut, no_command, no_memory, create, play, HasEnded}
-use Rattle.fbc_console.specs.Completing.{IsPlainPlay, IsPlainCreate, NothingFailed, IsCompleted}
+use Rattle.fbc_console.specs.Completing.{IsPlainPlay, IsPlainCreate, IsCompleted}
 
 -- an outcome is well, or comes of a fault or of want of memory
 abbrev IsFault : Outcome → Type 0

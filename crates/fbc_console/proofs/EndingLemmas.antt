@@ -18,9 +18,9 @@ use Rattle.fbc_console.specs.Asking.{HasAsked}
 use Rattle.fbc_console.specs.Transaction.{inserted, lines_before_commit, transcript}
 use Rattle.fbc_console.specs.Saying.{IsTransactionSaid}
 use Rattle.fbc_console.specs.Committing.{IsCommitted, Stands}
-use Rattle.fbc_console.specs.PlayTheorem.{TellReplies, TellSomeReplies, HasAllOrNothing, IsPlayOf}
+use Rattle.fbc_console.specs.PlayTheorem.{TellReplies, HasAllOrNothing, IsPlayOf}
 use Rattle.fbc_console.specs.Closing.{Outcome, Took, IsClosed}
-use Rattle.fbc_console.specs.Ending.{IsTransactionTold, IsTransactionPlayed, IsNothingPlayed, IsPlayed, IsFreshPlayed, IsMachinePlay, WhyNotPlayed, fault, memory, IsPlayDone, stopped, played, IsCarriedOut, no_command, play, create, HasEnded}
+use Rattle.fbc_console.specs.Ending.{IsTransactionTold, IsFreshPlayed, WhyNotPlayed, fault, memory, IsPlayDone, stopped, played, IsCarriedOut, no_command, play, create, HasEnded}
 use Rattle.fbc_console.proofs.FirstLines.{told_some}
 use Rattle.fbc_console.proofs.ClosingLemmas.{takes_nothing, ends}
 

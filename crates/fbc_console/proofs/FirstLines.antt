@@ -1,9 +1,8 @@
 -- The lines that were told before a play ended are a first part of all its lines.
-use Rattle.std.proofs.Common.{◌≡◌, ◌≤◌, ◌+◌, ◌++◌, ℕ, List, [], ◌∷◌, length, take, drop, Option, Ok, Err, inl, inr, refl, ap, sym, subst, ◌∙◌, append_assoc}
+use Rattle.std.proofs.Common.{◌≡◌, ◌+◌, ◌++◌, ℕ, List, [], ◌∷◌, length, take, drop, Option, Ok, Err, inl, inr, refl, ap, sym, subst, ◌∙◌, append_assoc}
 use Rattle.std.specs.Prelude.{reverse}
 use Rattle.std.proofs.lemmas.List.{append-nil, reverse-append, take-append-drop}
 use Rattle.fbc_script.specs.declared.single.Step.{Step}
-use Rattle.fbc_console.specs.declared.statuses.Status.{Status}
 use Rattle.fbc_console.specs.declared.statuses.Status.TheVariants as status
 use Rattle.fbc_console.specs.declared.transaction.Answer.TheVariants as answer
 use Rattle.fbc_console.specs.Transaction.{inserted, answer_to, answer_line, step_lines, opening_lines, lines_before_commit, commit_line, transcript, IsTold, nothing, attached, stepped}

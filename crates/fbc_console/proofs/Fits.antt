@@ -1,9 +1,9 @@
 -- The pages of the fresh file, and those that commit writes, are within their limits.
-use Rattle.std.proofs.Common.{◌≡◌, ◌≢◌, ◌<◌, ◌≤◌, ◌+◌, ◌*◌, ◌-◌, ◌++◌, ℕ, zero, suc, List, [], ◌∷◌, Bool, true, false, length, slice_set, slice_get, slice_index_or, Some, None, refl, ap, sym, ◌∙◌, arith, lit<, lit≤, subst, length-append}
+use Rattle.std.proofs.Common.{◌≡◌, ◌≢◌, ◌<◌, ◌≤◌, ◌+◌, ◌-◌, ◌++◌, ℕ, zero, suc, List, [], ◌∷◌, Bool, true, false, length, slice_set, slice_get, slice_index_or, Some, refl, ap, sym, ◌∙◌, arith, lit<, lit≤, subst, length-append}
 use Rattle.std.specs.Prelude.{map, replicate}
 use Rattle.std.specs.List.{All}
 use Rattle.std.proofs.lemmas.Grind.{common_steps}
-use Rattle.std.proofs.lemmas.List.{length-set, length-map, length-replicate, get_or_append_left, get_or-replicate}
+use Rattle.std.proofs.lemmas.List.{length-set, length-replicate, get_or_append_left, get_or-replicate}
 use Rattle.std.proofs.lemmas.List.Elements.{All-replicate, All-append, All-map, All-set}
 use Rattle.std.proofs.lemmas.Option.{slice_get_within, get_or_from_slice_get, slice_get-get_or}
 use Rattle.fbc_kinds.specs.declared.pages.State.{State}
@@ -12,13 +12,14 @@ use Rattle.fbc_kinds.specs.declared.pages.Relation.{Relation}
 use Rattle.fbc_kinds.specs.declared.pages.Tip.{Tip}
 use Rattle.fbc_kinds.specs.declared.pages.Pointer.{Pointer}
 use Rattle.fbc_kinds.specs.declared.pages.Inventory.{Inventory}
-use Rattle.fbc_kinds.specs.Limits.{inventory_bits, tip_numbers, number_limit}
-use Rattle.fbc_kinds.specs.HeaderSpelling.{IsHeader, IsRelation, IsPageNumber, ArePageNumbers, HaveOwnNames}
+use Rattle.fbc_kinds.specs.Limits.{number_limit}
+use Rattle.fbc_kinds.specs.HeaderSpelling.{IsHeader, IsRelation, ArePageNumbers, HaveOwnNames}
 use Rattle.fbc_kinds.specs.InventorySpelling.{IsInventory}
 use Rattle.fbc_kinds.specs.TipSpelling.{IsTip}
 use Rattle.fbc_kinds.specs.PointerSpelling.{IsPointer}
-use Rattle.fbc_kinds.specs.DataSpelling.{IsData, IsCell, IsVersion, empty_cell}
-use Rattle.fbc_console.specs.FreshFile.{fresh_relation, fresh_header, fresh_inventory, fresh_tip, fresh_pointer, begun_header, filled_inventory, committed_tip, filled_pointer, filled_data, taken_first, active_states, empty_slots, cells_of, inserted_cell}
+use Rattle.fbc_kinds.specs.DataSpelling.{IsData, IsCell, empty_cell}
+use Rattle.fbc_files.specs.NewPages.{taken_first, active_states, empty_slots}
+use Rattle.fbc_console.specs.FreshFile.{fresh_relation, fresh_header, fresh_inventory, fresh_tip, fresh_pointer, begun_header, filled_inventory, committed_tip, filled_pointer, filled_data, cells_of, inserted_cell}
 use Rattle.fbc_console.specs.StoredPages.{IsShortValue}
 use Rattle.fbc_console.proofs.CellLemmas.{length-cells_of}
 

@@ -1,19 +1,18 @@
 -- What stands and what was told after a new file was made, or was not.
-use Rattle.std.proofs.Common.{◌≡◌, ◌≤◌, ℕ, List, [], length, Bool, true, false, Option, Some, None, Ok, Err, refl, subst, sym}
+use Rattle.std.proofs.Common.{◌≡◌, ℕ, List, [], Bool, true, false, Option, Some, None, Ok, Err, refl, subst}
 use Rattle.fbc_kinds.specs.File.{IsSoundFile}
-use Rattle.fbc_kinds.specs.Limits.{IsPageSize}
 use Rattle.fbc_kinds.specs.Machine.{empty}
 use Rattle.fbc_kinds.specs.Meaning.{MeanTheSame, meaning_of}
 use Rattle.fbc_files.specs.declared.relations.NewRelation.{NewRelation}
 use Rattle.fbc_files.specs.Creating.{HoldsIfEmpty, IsNewFile, IsPartOfNewFile}
-use Rattle.fbc_files.specs.NewPages.{AreNewRelations, new_pages}
+use Rattle.fbc_files.specs.NewPages.{new_pages}
 use Rattle.fbc_files.specs.Pages.{listed_view}
 use Rattle.fbc_outside.specs.Streams.{SinkTakes, SinkTakesSome}
 use Rattle.fbc_console.specs.declared.statuses.Status.{Status}
 use Rattle.fbc_console.specs.declared.statuses.Status.TheVariants as status
-use Rattle.fbc_console.specs.Closing.{Outcome, Took}
+use Rattle.fbc_console.specs.Closing.{Took}
 use Rattle.fbc_console.specs.PlayTheorem.{HasFileOf}
-use Rattle.fbc_console.specs.Making.{IsVacant, IsOccupied, TellsVacant, WhyNotMade, created_line, IsFileMade, IsMade, IsCreateDone, unmade, made}
+use Rattle.fbc_console.specs.Making.{IsVacant, IsOccupied, TellsVacant, WhyNotMade, created_line, IsCreateDone, unmade, made}
 use Rattle.fbc_console.proofs.ClosingLemmas.{takes_nothing}
 
 -- what was found of a device that is as it was

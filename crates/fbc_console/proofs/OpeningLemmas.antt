@@ -1,5 +1,5 @@
 -- What the first bytes that were read say of a file.
-use Rattle.std.proofs.Common.{◌≡◌, ◌<◌, ◌≤◌, ◌+◌, ◌-◌, ◌↔◌, min, ℕ, List, length, take, drop, Bool, true, false, IsTrue, Option, Some, None, Ok, Err, refl, ap, sym, subst, ◌∙◌, arith}
+use Rattle.std.proofs.Common.{◌≡◌, ◌↔◌, min, ℕ, List, length, take, Bool, true, false, IsTrue, Option, Some, None, refl, ap, sym, subst, ◌∙◌, arith}
 use Rattle.std.proofs.Math.Seq.{take-length}
 use Rattle.std.proofs.lemmas.Grind.{common_steps}
 use Rattle.std.proofs.lemmas.List.{length-take}
@@ -8,7 +8,7 @@ use Rattle.fbc_kinds.specs.declared.shapes.Shape.{Shape}
 use Rattle.fbc_kinds.specs.HeaderSpelling.{ShowsShape, IsShape, broken_file}
 use Rattle.fbc_outside.specs.Bytes.{IsLength, ReadsFrom}
 use Rattle.fbc_console.specs.Images.{IsFreshFile}
-use Rattle.fbc_console.specs.Opening.{IsOpened, IsRefused, TellsFresh, IsFreshDevice, IsOtherDevice}
+use Rattle.fbc_console.specs.Opening.{IsOpened, IsRefused, TellsFresh}
 
 -- bytes and a number are a file's first 1,024 bytes and its length
 abbrev pub IsBeginning : Option (List ℕ) → List ℕ → ℕ → Type 0

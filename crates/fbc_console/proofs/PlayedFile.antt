@@ -16,7 +16,7 @@ use Rattle.fbc_script.specs.declared.single.Step.{Step}
 use Rattle.fbc_script.specs.SingleTransaction.{is_insert}
 use Rattle.fbc_console.specs.declared.writes.PageImage.{PageImage}
 use Rattle.fbc_console.specs.Committing.{IsCommitted, IsPartCommitted}
-use Rattle.fbc_console.specs.FreshFile.{active_states}
+use Rattle.fbc_files.specs.NewPages.{active_states}
 use Rattle.fbc_console.specs.Images.{IsFreshFile, AreImages, commit_pages}
 use Rattle.fbc_console.specs.Transaction.{inserted}
 use Rattle.fbc_console.specs.Writes.{bytes_after}

@@ -1,5 +1,5 @@
 -- What a sink has taken after one text and then another.
-use Rattle.std.proofs.Common.{◌≡◌, ◌<◌, ◌≤◌, ◌+◌, ◌⊎◌, inl, inr, ◌++◌, ℕ, List, [], ◌∷◌, length, take, slice_index_or, Some, Ok, Err, true, refl, ap, sym, subst, ◌∙◌, append_assoc, length-append, arith}
+use Rattle.std.proofs.Common.{◌≡◌, ◌<◌, ◌≤◌, ◌+◌, inl, inr, ◌++◌, ℕ, List, [], ◌∷◌, length, take, slice_index_or, Ok, Err, true, refl, ap, sym, subst, ◌∙◌, append_assoc, length-append, arith}
 use Rattle.std.specs.Prelude.{reverse, count_by, Option, Result, cond}
 use Rattle.std.proofs.Math.Seq.{take-append-add, take-length}
 use Rattle.std.proofs.lemmas.List.{take-append-le, append-nil, reverse-append}
@@ -12,9 +12,9 @@ use Rattle.fbc_script.specs.SingleTransaction.{is_insert}
 use Rattle.fbc_console.specs.declared.statuses.Status.{Status}
 use Rattle.fbc_console.specs.declared.statuses.Status.TheVariants as status
 use Rattle.fbc_console.specs.declared.transaction.Answer.TheVariants as answer
-use Rattle.fbc_console.specs.Transaction.{inserted, answer_to, answer_line, step_lines, opening_lines, lines_before_commit, commit_line, transcript, IsTold, nothing, attached, stepped}
+use Rattle.fbc_console.specs.Transaction.{inserted, answer_to, answer_line, step_lines, opening_lines, lines_before_commit, commit_line, IsTold, nothing, attached, stepped}
 use Rattle.fbc_console.specs.Committing.{IsCommitted}
-use Rattle.fbc_console.specs.Saying.{IsSaid, IsOpeningSaid, CutsSteps, StopsSteps, AreStepsSaid, IsCut, IsStopped, IsFrontSaid, IsTransactionSaid, IsCommitSaid}
+use Rattle.fbc_console.specs.Saying.{IsSaid, IsOpeningSaid, AreStepsSaid, IsFrontSaid, IsTransactionSaid, IsCommitSaid}
 
 -- one text and then another
 pub takes_both : (a b c : List ℕ → Type 0) (x y : List ℕ) → SinkTakes a b x → SinkTakes b c y → SinkTakes a c (x ++ y)

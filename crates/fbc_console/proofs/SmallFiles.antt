@@ -6,7 +6,8 @@ use Rattle.fbc_kinds.specs.declared.pages.Page.TheVariants as kind
 use Rattle.fbc_kinds.specs.declared.pages.State.{State}
 use Rattle.fbc_kinds.specs.declared.pages.State.TheVariants.{Active, Committed}
 use Rattle.fbc_kinds.specs.View.{unless_zero, is_active_state}
-use Rattle.fbc_console.specs.FreshFile.{taken_first, active_states, empty_slots, filled_data}
+use Rattle.fbc_files.specs.NewPages.{taken_first, active_states, empty_slots}
+use Rattle.fbc_console.specs.FreshFile.{filled_data}
 use Rattle.fbc_console.proofs.SmallFile.{Small, named_at, HasNoData, IsSmall, missing, holding}
 use Rattle.fbc_console.proofs.Fits.{slice_get-taken_first, slice_get-set_true, length-active_states, length-empty_slots, length-taken_first}
 

@@ -1,6 +1,5 @@
 -- A store of pages, one insert on.
 use Rattle.std.proofs.Common.{◌≡◌, ◌<◌, ◌≤◌, ◌+◌, ◌++◌, ℕ, List, [], ◌∷◌, length, take, slice_set, slice_get, slice_index_or, Some, None, ap, sym, ◌∙◌, subst, length-append, arith}
-use Rattle.std.specs.Prelude.{map}
 use Rattle.std.specs.Option.{option_map}
 use Rattle.std.proofs.lemmas.Option.{slice_get-map, slice_get-get_or, slice_get_past}
 use Rattle.std.proofs.lemmas.List.{get_or-take, length-take-le}

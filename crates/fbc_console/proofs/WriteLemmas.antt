@@ -1,11 +1,11 @@
 -- What a device has after a write in a row of writes failed.
-use Rattle.std.proofs.Common.{◌≡◌, ◌<◌, ◌≤◌, ◌+◌, ◌*◌, ◌⊎◌, inl, inr, ℕ, List, ◌∷◌, Bool, true, false, length, take, slice_index_or, Option, Some, None, ap, ◌∙◌, sym, refl, arith}
+use Rattle.std.proofs.Common.{◌≡◌, ◌<◌, ◌+◌, ◌*◌, inl, inr, ℕ, List, ◌∷◌, Bool, true, false, length, take, slice_index_or, Option, Some, None, ap, ◌∙◌, sym, arith}
 use Rattle.std.specs.Prelude.{reverse}
 use Rattle.std.proofs.lemmas.Grind.{common_steps}
 use Rattle.fbc_outside.specs.Bytes.{written, IsWritten}
-use Rattle.fbc_outside.specs.Landings.{LandedOrNot, landed_bytes}
+use Rattle.fbc_outside.specs.Landings.{LandedOrNot}
 use Rattle.fbc_console.specs.declared.writes.PageImage.{PageImage}
-use Rattle.fbc_console.specs.Writes.{bytes_after, IsAfter, IsAfterSome, IsPut, IsPutOrNot}
+use Rattle.fbc_console.specs.Writes.{bytes_after, IsAfter, IsAfterSome, IsPutOrNot}
 
 -- a failed write landed or did not
 pub IsPutOrNot-failed : (before now : Option (List ℕ)) (landings more : List Bool) (image : PageImage) → LandedOrNot before now landings more (image.page * 1024) image.bytes → IsPutOrNot before now image

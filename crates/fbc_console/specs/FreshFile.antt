@@ -1,5 +1,5 @@
 -- The pages of the fresh file with one relation, and those after one transaction over it.
-use Rattle.std.specs.Prelude.{◌≡◌, ◌-◌, ◌++◌, ℕ, List, [], ◌∷◌, Bool, true, false, length, map, replicate, slice_set, codes}
+use Rattle.std.specs.Prelude.{◌-◌, ◌++◌, ℕ, List, [], ◌∷◌, true, length, map, replicate, slice_set, codes}
 use Rattle.fbc_kinds.specs.declared.pages.Header.{Header}
 use Rattle.fbc_kinds.specs.declared.pages.Relation.{Relation}
 use Rattle.fbc_kinds.specs.declared.pages.Inventory.{Inventory}
@@ -7,10 +7,10 @@ use Rattle.fbc_kinds.specs.declared.pages.Tip.{Tip}
 use Rattle.fbc_kinds.specs.declared.pages.Pointer.{Pointer}
 use Rattle.fbc_kinds.specs.declared.pages.Data.{Data}
 use Rattle.fbc_kinds.specs.declared.pages.Cell.{Cell}
-use Rattle.fbc_kinds.specs.declared.pages.State.{State}
 use Rattle.fbc_kinds.specs.declared.pages.Flag.TheVariants.{Primary}
 use Rattle.fbc_kinds.specs.DataSpelling.{empty_cell}
-use Rattle.fbc_kinds.specs.declared.pages.State.TheVariants.{Active, Committed}
+use Rattle.fbc_files.specs.NewPages.{taken_first, active_states, empty_slots}
+use Rattle.fbc_kinds.specs.declared.pages.State.TheVariants.{Committed}
 
 -- the relation `t`, whose values have at most 10 bytes and whose pointer page is page 3
 abbrev pub fresh_relation : Relation
@@ -19,18 +19,6 @@ fresh_relation = record { name = codes "t"; length = 10; pointers = 3 ∷ [] }
 -- the header of a file of pages of 1,024 bytes that awaits its first transaction
 abbrev pub fresh_header : Header
 fresh_header = record { size = 1024; next = 1; inventories = 1; oldest = 0; relations = fresh_relation ∷ []; tips = 2 ∷ [] }
-
--- so many marks of taken pages, and behind them marks of free ones
-unfoldable pub taken_first : ℕ → ℕ → List Bool
-taken_first taken free = replicate taken true ++ replicate free false
-
--- so many transactions that are not over
-unfoldable pub active_states : ℕ → List State
-active_states count = replicate count Active
-
--- so many slots that name nothing
-unfoldable pub empty_slots : ℕ → List ℕ
-empty_slots count = replicate count 0
 
 -- the page inventory, by which pages 0 to 3 of 8,064 are taken
 abbrev pub fresh_inventory : Inventory

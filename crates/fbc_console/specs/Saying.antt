@@ -1,5 +1,5 @@
 -- Which lines a sink may have taken, by how a call ended.
-use Rattle.std.specs.Prelude.{◌≡◌, ◌≤◌, ◌++◌, ◌⊎◌, ℕ, List, [], length, take, reverse, Option, Result, Ok, Err}
+use Rattle.std.specs.Prelude.{◌≤◌, ◌⊎◌, ℕ, List, [], length, take, reverse, Option, Result, Ok, Err}
 use Rattle.fbc_outside.specs.Streams.{SinkTakes, SinkTakesSome}
 use Rattle.fbc_script.specs.declared.single.Step.{Step}
 use Rattle.fbc_console.specs.declared.statuses.Status.{Status}

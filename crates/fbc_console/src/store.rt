@@ -1,7 +1,8 @@
 //! The pages of the fresh file as values, changed by one transaction.
 
 ghost use Rattle.std.specs.Prelude.{◌≡◌, ◌<◌, ◌++◌, [], ◌∷◌, length, slice_get, IfOk, All};
-ghost use Rattle.fbc_console.specs.FreshFile.{fresh_header, fresh_inventory, fresh_tip, fresh_pointer, begun_header, committed_tip, filled_inventory, filled_pointer, filled_data, taken_first, active_states, empty_slots, cells_of};
+ghost use Rattle.fbc_files.specs.NewPages.{taken_first, active_states, empty_slots};
+ghost use Rattle.fbc_console.specs.FreshFile.{fresh_header, fresh_inventory, fresh_tip, fresh_pointer, begun_header, committed_tip, filled_inventory, filled_pointer, filled_data, cells_of};
 ghost use Rattle.fbc_console.specs.StoredPages.{IsShortValue};
 ghost use Rattle.fbc_console.specs.Images.{IsImage, AreImages, commit_pages};
 ghost use Rattle.fbc_kinds.specs.HeaderSpelling.{IsHeader};
@@ -219,7 +220,7 @@ fn empty_data(alloc: Global) -> Result<Data, AllocError>
     })
 }
 
-#[tactic(auto, unfolding(crate::specs::FreshFile::taken_first))]
+#[tactic(auto, unfolding(fbc_files::specs::NewPages::taken_first))]
 fn taken_first(alloc: Global, taken: usize, free: usize) -> Result<Listed<bool>, AllocError>
     ensures { IfOk result (λ marks. marks ≡ taken_first taken free) }
 {
@@ -228,14 +229,14 @@ fn taken_first(alloc: Global, taken: usize, free: usize) -> Result<Listed<bool>,
     Ok(marks)
 }
 
-#[tactic(auto, unfolding(crate::specs::FreshFile::active_states))]
+#[tactic(auto, unfolding(fbc_files::specs::NewPages::active_states))]
 fn active_states(alloc: Global, count: usize) -> Result<Listed<State>, AllocError>
     ensures { IfOk result (λ states. states ≡ active_states count) }
 {
     Listed::filled(alloc, State::Active, count)
 }
 
-#[tactic(auto, unfolding(crate::specs::FreshFile::empty_slots))]
+#[tactic(auto, unfolding(fbc_files::specs::NewPages::empty_slots))]
 fn empty_slots(alloc: Global, count: usize) -> Result<Listed<u32>, AllocError>
     ensures { IfOk result (λ slots. slots ≡ empty_slots count) }
 {

@@ -53,7 +53,7 @@ pub record IsPointerNaming (number : ℕ) (relations : List Relation) (n : Namin
   pub stands : slice_get relation.pointers sequence ≡ Some n.page
   pub role_is : n.role ≡ role.Pointer (number + place) sequence
 
-pointers_in : (number : ℕ) (relations : List Relation) (n : Naming) → In (pointers_named number relations) n → IsPointerNaming number relations n
+pub pointers_in : (number : ℕ) (relations : List Relation) (n : Naming) → In (pointers_named number relations) n → IsPointerNaming number relations n
 pointers_in number [] n i = absurd i
 pointers_in number (x ∷ xs) n i = go (in_either (named_in_row (role.Pointer number) 0 x.pointers) _ n i) (pointers_in (suc number) xs n)
   where

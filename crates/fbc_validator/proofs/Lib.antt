@@ -14,3 +14,7 @@ pub mod SoundPages
 pub mod Contents
 pub mod Rows
 pub mod Kept
+pub mod Tallied
+pub mod Tallies
+pub mod Walks
+pub mod FewSlots

@@ -1,5 +1,5 @@
 -- What is kept of a page that was read.
-use Rattle.std.specs.Prelude.{◌≡◌, ◌==◌, ◌&&◌, ◌*◌, ℕ, Bool, true, false, not, nat_lt, List, map, Option, Some, None, is_some, slice_index}
+use Rattle.std.specs.Prelude.{◌≡◌, ◌==◌, ◌&&◌, ◌*◌, ℕ, Bool, true, false, not, nat_lt, List, map, length, Option, Some, None, is_some, slice_index}
 use Rattle.std.specs.List.{list_any}
 use Rattle.fbc_kinds.specs.declared.pages.Page.{Page}
 use Rattle.fbc_kinds.specs.declared.pages.Page.TheVariants as kind
@@ -7,7 +7,7 @@ use Rattle.fbc_kinds.specs.declared.pages.Cell.{Cell}
 use Rattle.fbc_kinds.specs.declared.shapes.Shape.{Shape}
 use Rattle.fbc_kinds.specs.File.{Shows, page_bytes}
 use Rattle.fbc_kinds.specs.Spelling.{first_broken_rule}
-use Rattle.fbc_kinds.specs.Limits.{tip_numbers}
+use Rattle.fbc_kinds.specs.Limits.{slots, tip_numbers}
 use Rattle.fbc_kinds.specs.View.{is_empty}
 use Rattle.fbc_validator.specs.Damage.{has_late_state}
 use Rattle.fbc_validator.specs.declared.namings.Role.{Role}
@@ -29,16 +29,22 @@ content_of (Some (kind.Pointer p)) = content.Pointer p.relation p.sequence p.slo
 content_of (Some (kind.Data d)) = content.Data d.relation d.sequence (map version_of d.cells)
 content_of _ = content.Other
 
+-- A pointer page has all its slots.
+abbrev pub HasAllSlots : ℕ → Content → Type 0
+HasAllSlots size (content.Pointer relation sequence pages) = length pages ≡ slots size
+HasAllSlots size _ = Unit {0}
+
 -- A page was read from these bytes: the byte of its kind, the first rule that it breaks by itself, and what it shows.
 pub record IsReadFrom (shape : Shape) (number : ℕ) (bytes : List ℕ) (read : PageRead) : Type 0 where
   pub kind_is : read.kind ≡ slice_index bytes 0
   pub rule_is : read.rule ≡ first_broken_rule shape number bytes
   pub shown : (page : Option Page) → Shows shape number bytes page → read.content ≡ content_of page
   pub spelled : read.rule ≡ None → (page : Option Page) → Shows shape number bytes page → is_some page ≡ true
+  pub full : HasAllSlots shape.size read.content
 
--- The same of a page of a device that may not tell its bytes.
+-- The same of a page of a device; where that does not tell its bytes, the page was read from some bytes.
 abbrev pub IsReadOf : Shape → ℕ → Option (List ℕ) → PageRead → Type 0
-IsReadOf shape number None read = Unit {0}
+IsReadOf shape number None read = (bytes : List ℕ) × IsReadFrom shape number bytes read
 IsReadOf shape number (Some file) read = IsReadFrom shape number (page_bytes shape.size file number) read
 
 -- The tests of a page in a role, by what is kept of it.

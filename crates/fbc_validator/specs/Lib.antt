@@ -4,3 +4,4 @@ pub mod Walk
 pub mod Links
 pub mod Damage
 pub mod Content
+pub mod Tally

@@ -1,6 +1,6 @@
 //! The check of a whole file, as far as it is built: what its findings are, which pages are damaged
-//! and by which rule, and the reading and judging of single pages. The walk over all pages is not
-//! there yet.
+//! and by which rule, the reading and judging of single pages, and the walk over all of them. The
+//! chains of versions and the lists of findings are not there yet.
 #![tactic(auto)]
 
 mod content;
@@ -11,6 +11,8 @@ mod laws;
 mod namings;
 mod reading;
 mod shown;
+mod tally;
+mod walking;
 
 pub use content::{Content, PageRead, Version, content_shown};
 pub use faults::ValidateFault;
@@ -20,6 +22,8 @@ pub use laws::sound_without_damage;
 pub use namings::{Naming, Role, header_namings, push_slots};
 pub use reading::{read_content, read_page};
 pub use shown::page_shown;
+pub use tally::{NamedPage, Tally};
+pub use walking::{data_namings, walk};
 
 #[cfg(test)]
 mod tests;

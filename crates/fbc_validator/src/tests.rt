@@ -3,7 +3,7 @@
 ghost use Rattle.std.specs.Prelude.{◌≡◌, ◌≤◌, length as list_length, IfOk, IfSome};
 ghost use Rattle.fbc_kinds.specs.HeaderSpelling.{IsShape};
 
-use crate::{Naming, Role, ValidateFault, header_namings, push_slots, read_content};
+use crate::{Naming, Role, Tally, ValidateFault, header_namings, push_slots, read_content};
 use fbc_kinds::{PageFault, Rule, Shape};
 use fbc_outside::{CallKind, Fail, MemoryDevice};
 use fbc_pages::{decode_header, recognise};
@@ -157,5 +157,41 @@ fn slots_name_the_data_pages_of_their_sequence(rt: HostRuntime) -> Result<(), Al
         },
     ];
     assert!(rt; namings.as_slice() == expected.as_slice());
+    Ok(())
+}
+
+#[test]
+fn a_page_that_is_named_again_is_judged_and_not_read(rt: HostRuntime) -> Result<(), ValidateFault> {
+    let fail = Fail {
+        kind: CallKind::Read,
+        number: 2,
+        landed: false,
+    };
+    let mut device = device(rt.alloc(), &[fail])?;
+    let Some(shape) = shape() else {
+        panic!(rt; "the file is recognised");
+    };
+    let pointer = Role::Pointer {
+        relation: 0,
+        sequence: 0,
+    };
+    let roles = [
+        Role::Tip { sequence: 0 },
+        pointer,
+        Role::Pointer {
+            relation: 0,
+            sequence: 1,
+        },
+    ];
+    let mut tally = Tally::new(rt.alloc(), 1);
+    for role in roles {
+        tally.note(rt.alloc(), &mut device, &shape, Naming { page: 3, role })?;
+    }
+    let Some(page) = tally.get(3) else {
+        panic!(rt; "the page was named");
+    };
+    assert_eq!(rt; (page.first, page.walked), (roles[0], Some(pointer)));
+    assert!(rt; page.other_kind && page.other_role && page.other_sequence);
+    assert!(rt; !page.other_relation && !page.late && tally.get(4).is_none());
     Ok(())
 }

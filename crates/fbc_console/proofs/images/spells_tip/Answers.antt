@@ -1,4 +1,3 @@
-use Rattle.std.proofs.Common.{inl, refl}
 use Rattle.fbc_kinds.specs.TipSpelling.{SpellsTip}
 use Rattle.fbc_console.specs.FreshFile.{fresh_tip}
 use Rattle.fbc_console.proofs.CommitLemmas.{is_fresh}

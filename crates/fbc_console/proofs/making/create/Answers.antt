@@ -1,4 +1,4 @@
-use Rattle.std.proofs.Common.{◌∙◌, List, ℕ, Err, ap, sym, subst}
+use Rattle.std.proofs.Common.{◌∙◌, Err, ap, sym, subst}
 use Rattle.fbc_files.specs.Creating.{HoldsIfEmpty, IsNewFile, IsPartOfNewFile}
 use Rattle.fbc_outside.specs.Streams.{SinkTakes, SinkTakesSome}
 use Rattle.fbc_console.specs.Making.{WhyNotMade}

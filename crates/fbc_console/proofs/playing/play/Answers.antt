@@ -1,6 +1,6 @@
 use Rattle.std.proofs.Common.{subst}
 use Rattle.fbc_console.specs.Committing.{IsCommitted}
-use Rattle.fbc_console.proofs.SayingLemmas.{transaction, transaction_cut, transaction_none}
+use Rattle.fbc_console.proofs.SayingLemmas.{transaction, transaction_none}
 use Rattle.fbc_console.proofs.playing.play.Goals as goal
 
 pub returns-in-Err-clause-said : goal.returns-in-Err-clause-said

@@ -1,6 +1,5 @@
-use Rattle.std.proofs.Common.{◌≡◌, ◌<◌, ◌+◌, List, ℕ, length, take, true, ap, sym, subst, ◌∙◌}
+use Rattle.std.proofs.Common.{◌≡◌, ◌<◌, ◌+◌, length, take, true, ap, sym, subst, ◌∙◌}
 use Rattle.std.specs.Prelude.{reverse, Err}
-use Rattle.fbc_script.specs.declared.single.Step.{Step}
 use Rattle.fbc_script.specs.SingleTransaction.{is_insert}
 use Rattle.fbc_console.specs.Transaction.{inserted, answer_to, answer_line}
 use Rattle.fbc_console.specs.Saying.{IsSaid}

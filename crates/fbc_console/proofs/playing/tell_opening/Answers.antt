@@ -1,4 +1,4 @@
-use Rattle.fbc_console.proofs.SayingLemmas.{opening, opening_cut}
+use Rattle.fbc_console.proofs.SayingLemmas.{opening}
 use Rattle.fbc_console.proofs.playing.tell_opening.Goals as goal
 
 pub returns-in-Ok-clause-said : goal.returns-in-Ok-clause-said

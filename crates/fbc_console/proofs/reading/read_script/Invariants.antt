@@ -1,5 +1,5 @@
-use Rattle.std.proofs.Common.{◌≤◌, ◌+◌, ◌-◌, length, vec_len}
-use Rattle.fbc_console.specs.Script.{HasRead, TakesAtMost}
+use Rattle.std.proofs.Common.{◌≤◌, ◌-◌, length, vec_len}
+use Rattle.fbc_console.specs.Script.{HasRead}
 use Rattle.fbc_console.proofs.reading.read_script.Given as goal
 
 abbrev pub invariant-loop-text : goal.invariant-loop-text

@@ -1,4 +1,4 @@
-use Rattle.std.proofs.Common.{◌<◌, length, ap, ◌∙◌, arith}
+use Rattle.std.proofs.Common.{ap, ◌∙◌, arith}
 use Rattle.fbc_console.specs.FreshFile.{filled_data}
 use Rattle.fbc_console.proofs.CommitLemmas.{AreImages-filled, IsImage-data}
 use Rattle.fbc_console.proofs.StoreLemmas.{data_fits, has_values}

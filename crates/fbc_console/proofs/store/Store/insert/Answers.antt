@@ -1,4 +1,4 @@
-use Rattle.std.proofs.Common.{◌≡◌, ◌+◌, ◌++◌, [], ◌∷◌, length, ap, sym, ◌∙◌, arith}
+use Rattle.std.proofs.Common.{◌+◌, ◌++◌, [], ◌∷◌, length, ap, sym, ◌∙◌, arith}
 use Rattle.fbc_console.specs.StoredPages.{values_in}
 use Rattle.fbc_console.proofs.StoreLemmas.{length-cells, values-inserted, IsStore-inserted, has_room}
 use Rattle.fbc_console.proofs.store.Store.insert.Goals as goal

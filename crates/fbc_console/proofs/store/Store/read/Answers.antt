@@ -1,4 +1,4 @@
-use Rattle.std.proofs.Common.{◌≡◌, length, slice_get, slice_index_or, Some, ap, sym, ◌∙◌, arith}
+use Rattle.std.proofs.Common.{slice_get, slice_index_or, Some, ap, sym, ◌∙◌, arith}
 use Rattle.fbc_console.proofs.StoreLemmas.{length-cells, slice_get-values_of}
 use Rattle.fbc_console.proofs.store.Store.read.Goals as goal
 

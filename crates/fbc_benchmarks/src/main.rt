@@ -1,0 +1,92 @@
+//! The program `fbc_benchmarks`: `pages COUNT` times the codecs of pages beside a plain copy, and
+//! `script BYTES` the reading of scripts. What it counts goes to the standard output and the seconds,
+//! which vary, to the standard error.
+#![tactic(auto)]
+
+mod pages;
+mod scripts;
+mod spent;
+
+ghost use Rattle.std.specs.Prelude.{◌*◌, ◌<◌};
+
+use crate::pages::{copy_pages, recode_pages, sample_pages};
+use crate::scripts::{PAIR, script_of};
+use crate::spent::Start;
+use anyhow::{Result, bail};
+use fbc_script::{Line, parse};
+use std::{env, mem};
+
+const USAGE: &str = "usage: fbc_benchmarks pages COUNT | script BYTES ..";
+
+/// The greatest script that is asked for, in bytes.
+const GREATEST: usize = 1_000_000_000;
+
+fn main(rt: HostRuntime) -> Result<()> {
+    let mut words = Vec::new(rt.alloc());
+    for word in env::args(&rt)?.skip(1) {
+        words.push(word)?;
+    }
+    if words.is_empty() {
+        bail!("{USAGE}");
+    }
+    for order in words.as_slice().chunks(2) {
+        carry_out(&rt, order)?;
+    }
+    Ok(())
+}
+
+/// Carries out one benchmark: a word and a number.
+fn carry_out(rt: &HostRuntime, order: &[String]) -> Result<()> {
+    match order {
+        [word, count] if word.as_str() == "pages" => {
+            time_pages(rt, count.as_str().parse::<u64>()?)
+        }
+        [word, bytes] if word.as_str() == "script" => {
+            time_scripts(rt, bytes.as_str().parse::<usize>()?)
+        }
+        _ => bail!("{USAGE}"),
+    }
+}
+
+/// Reads and writes so many pages of the five kinds in turn, and copies as many.
+fn time_pages(rt: &HostRuntime, count: u64) -> Result<()> {
+    let pages = sample_pages(rt.alloc())?;
+    let mut out = vec![in rt.alloc(); 0u8; 4096]?;
+    let start = Start::now(rt)?;
+    recode_pages(rt.alloc(), count, &pages, &mut out)?;
+    let recoding = start.spent(rt)?;
+    let start = Start::now(rt)?;
+    copy_pages(count, &pages, &mut out);
+    let copying = start.spent(rt)?;
+    println!(rt; "{count} pages decoded and encoded, {count} pages copied")?;
+    eprintln!(rt; "decoded and encoded in {recoding}")?;
+    eprintln!(rt; "copied in {copying}")?;
+    Ok(())
+}
+
+/// Reads a script of about so many bytes, and one of twice as many lines.
+fn time_scripts(rt: &HostRuntime, bytes: usize) -> Result<()> {
+    if bytes > GREATEST {
+        bail!("a script has at most {GREATEST} bytes");
+    }
+    let pairs = bytes / PAIR.len();
+    eprintln!(rt; "a line takes {} bytes in memory", mem::size_of::<Line>())?;
+    time_script(rt, pairs)?;
+    time_script(rt, 2 * pairs)
+}
+
+/// Reads a script of so many pairs of lines.
+fn time_script(rt: &HostRuntime, pairs: usize) -> Result<()>
+    requires { 49 * pairs < 4294967295 }
+{
+    let bytes = script_of(rt.alloc(), pairs)?;
+    let start = Start::now(rt)?;
+    let Ok(script) = parse(rt.alloc(), &bytes, false) else {
+        bail!("the script was not read");
+    };
+    let reading = start.spent(rt)?;
+    let count = script.lines.len();
+    println!(rt; "{} bytes, {count} lines", bytes.len())?;
+    eprintln!(rt; "{count} lines read in {reading}")?;
+    Ok(())
+}

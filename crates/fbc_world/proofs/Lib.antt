@@ -1,0 +1,4 @@
+mod OutlineLaws
+mod SketchLaws
+mod PairLaws
+mod DraftLaws
