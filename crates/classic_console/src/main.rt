@@ -5,6 +5,9 @@
 #[cfg(test)]
 mod tests;
 
+ghost use Rattle.std.specs.Prelude.{◌≡◌, ◌↔◌, ◌⊎◌, IsTrue, IfErr};
+ghost use Rattle.classic_console.specs.Opening.{MakesFile};
+
 use fbc_console::{Ended, Status, console, end};
 use fbc_outside::{FileDevice, Sink, StdSink, StdSource};
 use std::fs::{File, OpenOptions};
@@ -23,7 +26,9 @@ fn main(rt: HostRuntime) -> ExitCode {
 /// The words of the command line behind the program's name.
 ///
 /// Errors: `Usage` where one of them is no text, `OutOfMemory`.
-fn words_of(rt: &HostRuntime) -> Result<Vec<String>, Status> {
+fn words_of(rt: &HostRuntime) -> Result<Vec<String>, Status>
+    ensures { IfErr result (λ status. (status ≡ Status.OutOfMemory) ⊎ (status ≡ Status.Usage)) }
+{
     let all = env::args(rt).map_err(|error| status_of(&error))?;
     let mut words = Vec::new(rt.alloc());
     for word in all.skip(1) {
@@ -32,7 +37,9 @@ fn words_of(rt: &HostRuntime) -> Result<Vec<String>, Status> {
     Ok(words)
 }
 
-fn status_of(error: &io::Error) -> Status {
+fn status_of(error: &io::Error) -> Status
+    ensures { (result ≡ Status.OutOfMemory) ⊎ (result ≡ Status.Usage) }
+{
     match error.kind() {
         io::ErrorKind::OutOfMemory => Status::OutOfMemory,
         _ => Status::Usage,
@@ -70,7 +77,9 @@ fn open(rt: &HostRuntime, name: &str, words: &[String]) -> io::Result<File> {
 }
 
 /// Whether the first of the words is `create`.
-fn is_create(words: &[String]) -> bool {
+fn is_create(words: &[String]) -> bool
+    ensures { IsTrue result ↔ MakesFile words.now }
+{
     match words {
         [word, ..] => word.as_str() == "create",
         [] => false,
