@@ -7,3 +7,8 @@ use Rattle.std.specs.declared.string.String.{String}
 abbrev pub MakesFile : List (String Global) → Type 0
 MakesFile (word ∷ words) = string_bytes word ≡ codes "create"
 MakesFile [] = ⊥
+
+-- the first of the words is `validate`, for which a file is only read
+abbrev pub ReadsFile : List (String Global) → Type 0
+ReadsFile (word ∷ words) = string_bytes word ≡ codes "validate"
+ReadsFile [] = ⊥

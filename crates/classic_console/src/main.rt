@@ -6,7 +6,7 @@
 mod tests;
 
 ghost use Rattle.std.specs.Prelude.{◌≡◌, ◌↔◌, ◌⊎◌, IsTrue, IfErr};
-ghost use Rattle.classic_console.specs.Opening.{MakesFile};
+ghost use Rattle.classic_console.specs.Opening.{MakesFile, ReadsFile};
 
 use fbc_console::{Ended, Status, console, end};
 use fbc_outside::{FileDevice, Sink, StdSink, StdSource};
@@ -67,11 +67,12 @@ fn run<K: Sink>(rt: &HostRuntime, words: &[String], out: &mut K) -> Status {
     }
 }
 
-/// Opens a file to be read and written. It is made where it is missing for `create` alone.
+/// Opens a file to be read, and to be written but for `validate`. It is made where it is missing for
+/// `create` alone.
 fn open(rt: &HostRuntime, name: &str, words: &[String]) -> io::Result<File> {
     let mut how = OpenOptions::new();
     how.read(true);
-    how.write(true);
+    how.write(!is_validate(words));
     how.create(is_create(words));
     how.open(rt, name)
 }
@@ -82,6 +83,16 @@ fn is_create(words: &[String]) -> bool
 {
     match words {
         [word, ..] => word.as_str() == "create",
+        [] => false,
+    }
+}
+
+/// Whether the first of the words is `validate`.
+fn is_validate(words: &[String]) -> bool
+    ensures { IsTrue result ↔ ReadsFile words.now }
+{
+    match words {
+        [word, ..] => word.as_str() == "validate",
         [] => false,
     }
 }

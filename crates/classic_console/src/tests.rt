@@ -53,6 +53,28 @@ const INSERTED: [Spot; 6] = [
 /// What a commit without an insert changes in it.
 const EMPTY: [Spot; 2] = [(32, &[0x02]), (2064, &[0x0c])];
 
+/// What stands in a file of values of at most 200 bytes after five inserts, and after an update whose
+/// owner died before it wrote the page of the new version: the value that it moved is lost. Each value
+/// is `r` and a digit, of transaction 1.
+const MOVED: [Spot; 13] = [
+    (32, &[0x03]),
+    (64, &[0xc8]),
+    (1040, &[0x3f]),
+    (2064, &[0x0c]),
+    (3088, &[0x04, 0x00, 0x00, 0x00, 0x05]),
+    (4096, &[0x05, 0x01, 0x00, 0x00, 0x04]),
+    (4112, &[0x01, 2, 0, 0, 1, 0, 0, 0, 0, 0, 0, 0, b'r', b'0']),
+    (4324, &[0x01, 2, 0, 0, 1, 0, 0, 0, 0, 0, 0, 0, b'r', b'1']),
+    (4536, &[0x01, 2, 0, 0, 1, 0, 0, 0, 0, 0, 0, 0, b'r', b'2']),
+    (4748, &[0x01, 2, 0, 0, 1, 0, 0, 0, 0, 0, 0, 0, b'r', b'3']),
+    (
+        5120,
+        &[0x05, 0x01, 0x00, 0x00, 0x05, 0x00, 0x00, 0x00, 0x01],
+    ),
+    (5136, &[0x01, 2, 0, 0, 1, 0, 0, 0, 0, 0, 0, 0, b'r', b'4']),
+    (5348, &[0x03, 2, 0, 0, 1, 0, 0, 0, 0, 0, 0, 0, b'r', b'0']),
+];
+
 /// A file: so many bytes, with the spots of the fresh file and these over them.
 type Content = (usize, &'static [Spot]);
 
@@ -191,7 +213,7 @@ fn refused_calls_tell_why_and_leave_the_file(rt: HostRuntime) -> Result<(), Fail
 #[test]
 fn other_words_are_no_command(rt: HostRuntime) -> Result<(), Fail> {
     let alloc = rt.alloc();
-    let cases: [&[&str]; 25] = [
+    let cases: [&[&str]; 29] = [
         &[],
         &["--"],
         &["help"],
@@ -200,6 +222,10 @@ fn other_words_are_no_command(rt: HostRuntime) -> Result<(), Fail> {
         &["play", ""],
         &["play", "play"],
         &["play", "--"],
+        &["validate", "--json=1"],
+        &["validate", "--json", "--json"],
+        &["validate", "--text"],
+        &["validate", "new.db"],
         &["create"],
         &["create", "1024"],
         &["create", "1000", "t:10"],
@@ -519,6 +545,86 @@ fn the_earlier_status_comes(rt: HostRuntime) -> Result<(), Fail> {
         let seen = call(alloc, words, file, Vec::new(alloc), script, None, 3)?;
         assert_eq!(rt; seen.status, Status::SinkFault);
         assert_eq!(rt; seen.bytes, bytes_of(alloc, file)?);
+    }
+    Ok(())
+}
+
+/// Checks a file where nothing fails, with so much room for the report.
+fn validate(
+    alloc: Global,
+    words: &[&str],
+    file: Content,
+    fails: Vec<Failing>,
+    room: usize,
+) -> Result<Seen, AllocError>
+    requires { file.0 ≤ 262144 }
+{
+    let script = Vec::from_slice(alloc, SCRIPT.as_bytes())?;
+    call(alloc, words, file, fails, script, None, room)
+}
+
+#[test]
+fn a_file_is_checked(rt: HostRuntime) -> Result<(), Fail> {
+    let alloc = rt.alloc();
+    let cut: Content = (4096, &INSERTED);
+    let cases: [(Content, u8, &str, &str); 4] = [
+        (
+            F,
+            0,
+            "pages 4\nsound\n",
+            "{\"damages\":[],\"lost_cells\":[],\"lost_pages\":[],\"pages\":4,\"sound\":true}\n",
+        ),
+        (
+            (6144, &MOVED),
+            0,
+            "pages 6\nlost cell 5 1\nsound\n",
+            "{\"damages\":[],\"lost_cells\":[[5,1]],\"lost_pages\":[],\"pages\":6,\"sound\":true}\n",
+        ),
+        (
+            cut,
+            3,
+            "pages 4\ndamaged 4 kind\ndamaged\n",
+            "{\"damages\":[[4,\"kind\"]],\"lost_cells\":[],\"lost_pages\":[],\"pages\":4,\"sound\":false}\n",
+        ),
+        ((500, &[]), 3, "notours short\n", "notours short\n"),
+    ];
+    for (file, number, lines, value) in cases {
+        let seen = validate(alloc, &["validate"], file, Vec::new(alloc), 1000)?;
+        assert_eq!(rt; seen.status.number(), number, "{lines}");
+        assert_eq!(rt; seen.lines.as_slice(), lines.as_bytes(), "{lines}");
+        assert_eq!(rt; seen.bytes, bytes_of(alloc, file)?, "{lines}");
+        let seen = validate(alloc, &["validate", "--json"], file, Vec::new(alloc), 1000)?;
+        assert_eq!(rt; seen.status.number(), number, "{value}");
+        assert_eq!(rt; seen.lines.as_slice(), value.as_bytes(), "{value}");
+        assert_eq!(rt; seen.bytes, bytes_of(alloc, file)?, "{value}");
+    }
+    let seen = validate(alloc, &["validate"], cut, Vec::new(alloc), 20)?;
+    assert_eq!(rt; seen.status, Status::SinkFault);
+    assert_eq!(rt; seen.lines.as_slice(), b"".as_slice());
+    Ok(())
+}
+
+#[test]
+fn a_failed_call_of_the_device_ends_the_check(rt: HostRuntime) -> Result<(), Fail> {
+    let alloc = rt.alloc();
+    let calls = [
+        (CallKind::Length, 1),
+        (CallKind::Read, 1),
+        (CallKind::Read, 2),
+        (CallKind::Read, 5),
+    ];
+    for (kind, number) in calls {
+        let fails = vec![in alloc;
+            Failing {
+                kind,
+                number,
+                landed: false
+            },
+        ]?;
+        let seen = validate(alloc, &["validate"], F, fails, 1000)?;
+        assert_eq!(rt; seen.status, Status::DeviceFault, "{number}");
+        assert_eq!(rt; seen.lines.as_slice(), b"device\n".as_slice(), "{number}");
+        assert_eq!(rt; seen.bytes, bytes_of(alloc, F)?, "{number}");
     }
     Ok(())
 }

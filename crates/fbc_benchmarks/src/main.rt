@@ -1,22 +1,28 @@
 //! The program `fbc_benchmarks`: `pages COUNT` times the codecs of pages beside a plain copy, and
 //! `script BYTES` the reading of scripts. What it counts goes to the standard output and the seconds,
-//! which vary, to the standard error.
+//! which vary, to the standard error. `file SIZE PAGES PATH` makes a sound file for the check of files
+//! to be timed over.
 #![tactic(auto)]
 
+mod files;
 mod pages;
+mod plans;
 mod scripts;
 mod spent;
 
 ghost use Rattle.std.specs.Prelude.{◌*◌, ◌<◌};
 
+use crate::files::write_file;
 use crate::pages::{copy_pages, recode_pages, sample_pages};
+use crate::plans::Plan;
 use crate::scripts::{PAIR, script_of};
 use crate::spent::Start;
 use anyhow::{Result, bail};
 use fbc_script::{Line, parse};
+use std::fs::File;
 use std::{env, mem};
 
-const USAGE: &str = "usage: fbc_benchmarks pages COUNT | script BYTES ..";
+const USAGE: &str = "usage: fbc_benchmarks pages COUNT | script BYTES | file SIZE PAGES PATH ..";
 
 /// The greatest script that is asked for, in bytes.
 const GREATEST: usize = 1_000_000_000;
@@ -29,23 +35,44 @@ fn main(rt: HostRuntime) -> Result<()> {
     if words.is_empty() {
         bail!("{USAGE}");
     }
-    for order in words.as_slice().chunks(2) {
-        carry_out(&rt, order)?;
+    let mut rest = words.as_slice();
+    for _ in 0..words.len() {
+        if !rest.is_empty() {
+            rest = carry_out(&rt, rest)?;
+        }
     }
     Ok(())
 }
 
-/// Carries out one benchmark: a word and a number.
-fn carry_out(rt: &HostRuntime, order: &[String]) -> Result<()> {
-    match order {
-        [word, count] if word.as_str() == "pages" => {
-            time_pages(rt, count.as_str().parse::<u64>()?)
+/// Carries out the first order of these words, and answers the words behind it.
+fn carry_out<'a>(rt: &HostRuntime, words: &'a [String]) -> Result<&'a [String]> {
+    match words {
+        [word, count, rest @ ..] if word.as_str() == "pages" => {
+            time_pages(rt, count.as_str().parse::<u64>()?)?;
+            Ok(rest)
         }
-        [word, bytes] if word.as_str() == "script" => {
-            time_scripts(rt, bytes.as_str().parse::<usize>()?)
+        [word, bytes, rest @ ..] if word.as_str() == "script" => {
+            time_scripts(rt, bytes.as_str().parse::<usize>()?)?;
+            Ok(rest)
+        }
+        [word, size, pages, path, rest @ ..] if word.as_str() == "file" => {
+            let size = size.as_str().parse::<u32>()?;
+            make_file(rt, size, pages.as_str().parse::<u32>()?, path.as_str())?;
+            Ok(rest)
         }
         _ => bail!("{USAGE}"),
     }
+}
+
+/// Makes a sound file with so many data pages.
+fn make_file(rt: &HostRuntime, size: u32, data_pages: u32, path: &str) -> Result<()> {
+    let Some(plan) = Plan::new(size, data_pages) else {
+        bail!("there is no file of {data_pages} data pages of {size} bytes");
+    };
+    let mut file = File::create(rt, path)?;
+    let pages = write_file(rt.alloc(), &plan, &mut file)?;
+    println!(rt; "{pages} pages of {size} bytes, {data_pages} of them data pages")?;
+    Ok(())
 }
 
 /// Reads and writes so many pages of the five kinds in turn, and copies as many.

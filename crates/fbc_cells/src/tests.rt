@@ -208,6 +208,7 @@ fn rules_of_pointer_pages(rt: HostRuntime) -> Result<(), PageFault> {
         &[
             (&[], None),
             (&[(2, &[7])], None),
+            (&[(8, &[1])], None),
             (&[(0, &[5])], Some(Rule::Kind)),
             (&[(0, &[5, 2])], Some(Rule::Kind)),
             (&[(1, &[2])], Some(Rule::Head)),
@@ -232,6 +233,7 @@ fn rules_of_data_pages(rt: HostRuntime) -> Result<(), PageFault> {
         &[
             (&[(0, &[4])], Some(Rule::Kind)),
             (&[(0, &[4, 2])], Some(Rule::Kind)),
+            (&[(1, &[2])], Some(Rule::Head)),
             (&[(13, &[1])], Some(Rule::Head)),
             (&[(13, &[1]), (4, &[3])], Some(Rule::Head)),
             (&[(4, &[3])], Some(Rule::Number)),
@@ -244,7 +246,10 @@ fn rules_of_data_pages(rt: HostRuntime) -> Result<(), PageFault> {
             (&[(17, &[11])], Some(Rule::Cell)),
             (&[(17, &[0]), (28, &[0])], Some(Rule::Cell)),
             (&[(16, &[2])], Some(Rule::Cell)),
+            (&[(16, &[2, 0])], Some(Rule::Cell)),
             (&[(16, &[2, 0]), (28, &[0])], None),
+            (&[(16, &[3, 0]), (28, &[0])], Some(Rule::Cell)),
+            (&[(16, &[3, 11])], Some(Rule::Cell)),
             (&[(20, &[0])], Some(Rule::Cell)),
             (&[(29, &[1])], Some(Rule::Cell)),
             (&[(37, &[1])], Some(Rule::Cell)),

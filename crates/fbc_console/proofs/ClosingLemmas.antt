@@ -29,6 +29,7 @@ closes a b c told ended last first (memory is took) = short is (past a b c told 
 
 pub ends : (outcome : Outcome) (a b c : List ℕ → Type 0) (told : List ℕ) (last : Status) → Took outcome a b told → IsClosed outcome b c last → EndsWith outcome a c told last
 ends (Ok done) a b c told last took closed = (closed.0, takes_none a b c told took closed.1)
+ends (Err status.Damaged) a b c told last took closed = (closed.0, takes_none a b c told took closed.1)
 ends (Err status.SinkFault) a b c told last took closed = (closed.0, some_none a b c told took closed.1)
 ends (Err status.OutOfMemory) a b c told last took closed = (closed.0, past a b c told (status_line status.OutOfMemory) took closed.1)
 ends (Err status.Ok) a b c told last took closed = closes a b c told status.Ok last took closed

@@ -9,18 +9,19 @@ use Rattle.fbc_script.specs.declared.single.SingleTransaction.TheVariants.{Absen
 use Rattle.fbc_files.specs.declared.relations.NewRelation.{NewRelation}
 use Rattle.fbc_console.specs.declared.statuses.Status.{Status}
 use Rattle.fbc_console.specs.declared.statuses.Status.TheVariants as status
-use Rattle.fbc_console.specs.declared.words.Command.{Command}
-use Rattle.fbc_console.specs.declared.words.Command.TheVariants as command
-use Rattle.fbc_console.specs.Words.{SpellsCommand, TellsCommand}
+use Rattle.fbc_command_line.specs.declared.commands.Command.{Command}
+use Rattle.fbc_command_line.specs.declared.commands.Command.TheVariants as command
+use Rattle.fbc_command_line.specs.Commands.{SpellsCommand, TellsCommand}
 use Rattle.fbc_console.specs.Making.{IsCreateDone}
 use Rattle.fbc_console.specs.Opening.{IsFreshDevice, IsOtherDevice, TellsFresh}
+use Rattle.fbc_console.specs.Checking.{IsCheckDone}
 use Rattle.fbc_console.specs.Asking.{HasAsked}
 use Rattle.fbc_console.specs.Transaction.{inserted, lines_before_commit, transcript}
 use Rattle.fbc_console.specs.Saying.{IsTransactionSaid}
 use Rattle.fbc_console.specs.Committing.{IsCommitted, Stands}
 use Rattle.fbc_console.specs.PlayTheorem.{TellReplies, HasAllOrNothing, IsPlayOf}
 use Rattle.fbc_console.specs.Closing.{Outcome, Took, IsClosed}
-use Rattle.fbc_console.specs.Ending.{IsTransactionTold, IsFreshPlayed, WhyNotPlayed, fault, memory, IsPlayDone, stopped, played, IsCarriedOut, no_command, play, create, HasEnded}
+use Rattle.fbc_console.specs.Ending.{IsTransactionTold, IsFreshPlayed, WhyNotPlayed, fault, memory, IsPlayDone, stopped, played, IsCarriedOut, no_command, validate, play, create, HasEnded}
 use Rattle.fbc_console.proofs.FirstLines.{told_some}
 use Rattle.fbc_console.proofs.ClosingLemmas.{takes_nothing, ends}
 
@@ -65,14 +66,14 @@ pub nothing_played : (a : List ℕ → Type 0) (before : Option (List ℕ)) → 
     → (told : List ℕ) × IsFreshPlayed (Ok tt) Absent told before before × Took (Ok tt) a a told
 nothing_played a before is = ([], record { is = record { well = refl; silent = refl; same = refl }; machine = is }, takes_nothing a)
 
-pub ended : (words : List (String Global)) (left before now : Option (List ℕ)) (a b c : List ℕ → Type 0) (outcome : Outcome) (last : Status)
-    → ((told : List ℕ) × IsCarriedOut words left before now outcome told × Took outcome a b told)
-    → IsClosed outcome b c last → HasEnded words left a c before now last
-ended words left before now a b c outcome last (told, done, took) closed =
+pub ended : (reach : ℕ) (words : List (String Global)) (left before now : Option (List ℕ)) (a b c : List ℕ → Type 0) (outcome : Outcome) (last : Status)
+    → ((told : List ℕ) × IsCarriedOut reach words left before now outcome told × Took outcome a b told)
+    → IsClosed outcome b c last → HasEnded reach words left a c before now last
+ended reach words left before now a b c outcome last (told, done, took) closed =
     record { outcome = outcome; told = told; done = done; ends = ends outcome a b c told last took closed }
 
 -- where nothing is written, nothing is taken
-took_nothing : (outcome : Outcome) (a : List ℕ → Type 0) → Took outcome a a []
+pub took_nothing : (outcome : Outcome) (a : List ℕ → Type 0) → Took outcome a a []
 took_nothing (Err status.SinkFault) a = λ text had. (0, omega arith, takes_nothing a text had)
 took_nothing (Ok done) a = takes_nothing a
 took_nothing (Err _) a = takes_nothing a
@@ -94,24 +95,29 @@ pub was_played : (left before file now : Option (List ℕ)) (a c : List ℕ → 
 was_played left before file now a c outcome asked fresh has same (told, is, took) =
     (told, played asked fresh has (subst (λ bytes. IsFreshPlayed outcome asked told bytes now) same is), took)
 
-pub play_carried_out : (words : List (String Global)) (left before now : Option (List ℕ)) (a c : List ℕ → Type 0) (outcome : Outcome) → SpellsCommand words command.Play
+pub play_carried_out : (reach : ℕ) (words : List (String Global)) (left before now : Option (List ℕ)) (a c : List ℕ → Type 0) (outcome : Outcome) → SpellsCommand words command.Play
     → ((told : List ℕ) × IsPlayDone left before now outcome told × Took outcome a c told)
-    → (told : List ℕ) × IsCarriedOut words left before now outcome told × Took outcome a c told
-play_carried_out words left before now a c outcome spells (told, done, took) = (told, play spells done, took)
+    → (told : List ℕ) × IsCarriedOut reach words left before now outcome told × Took outcome a c told
+play_carried_out reach words left before now a c outcome spells (told, done, took) = (told, play spells done, took)
 
 pub without_file : (left file : Option (List ℕ)) (ended : Status) → (ended ≡ status.DeviceFault) ⊎ (ended ≡ status.OutOfMemory) → WhyNotPlayed left file ended
 without_file left file ended (inl is) = fault is
 without_file left file ended (inr is) = memory is
 
-pub create_carried_out : (words : List (String Global)) (left before now : Option (List ℕ)) (a c : List ℕ → Type 0) (outcome : Outcome) (size : ℕ) (relations : List NewRelation) → SpellsCommand words (command.Create size relations)
+pub create_carried_out : (reach : ℕ) (words : List (String Global)) (left before now : Option (List ℕ)) (a c : List ℕ → Type 0) (outcome : Outcome) (size : ℕ) (relations : List NewRelation) → SpellsCommand words (command.Create size relations)
     → ((told : List ℕ) × IsCreateDone size relations before now outcome told × Took outcome a c told)
-    → (told : List ℕ) × IsCarriedOut words left before now outcome told × Took outcome a c told
-create_carried_out words left before now a c outcome size relations spells (told, done, took) = (told, create size relations spells done, took)
+    → (told : List ℕ) × IsCarriedOut reach words left before now outcome told × Took outcome a c told
+create_carried_out reach words left before now a c outcome size relations spells (told, done, took) = (told, create size relations spells done, took)
 
 -- what was found is this command
 pub told_command : (words : List (String Global)) (found : Option Command) (inner is : Command) → found ≡ Some inner → inner ≡ is → TellsCommand words found → SpellsCommand words is
 told_command words found inner is found_is inner_is tells = subst (SpellsCommand words) inner_is (subst (TellsCommand words) found_is tells)
 
-pub no_command_carried_out : (words : List (String Global)) (left before : Option (List ℕ)) (a : List ℕ → Type 0) (found : Option Command) → found ≡ None → TellsCommand words found
-    → (told : List ℕ) × IsCarriedOut words left before before (Err status.Usage) told × Took (Err status.Usage) a a told
-no_command_carried_out words left before a found is tells = ([], no_command (subst (TellsCommand words) is tells) refl refl refl, takes_nothing a)
+pub no_command_carried_out : (reach : ℕ) (words : List (String Global)) (left before : Option (List ℕ)) (a : List ℕ → Type 0) (found : Option Command) → found ≡ None → TellsCommand words found
+    → (told : List ℕ) × IsCarriedOut reach words left before before (Err status.Usage) told × Took (Err status.Usage) a a told
+no_command_carried_out reach words left before a found is tells = ([], no_command (subst (TellsCommand words) is tells) refl refl refl, takes_nothing a)
+
+pub check_carried_out : (reach : ℕ) (words : List (String Global)) (left before now : Option (List ℕ)) (a c : List ℕ → Type 0) (outcome : Outcome) (json : Bool) → SpellsCommand words (command.Validate json)
+    → ((told : List ℕ) × IsCheckDone json reach before now outcome told × Took outcome a c told)
+    → (told : List ℕ) × IsCarriedOut reach words left before now outcome told × Took outcome a c told
+check_carried_out reach words left before now a c outcome json spells (told, done, took) = (told, validate json spells done, took)

@@ -1,6 +1,6 @@
 mod CellLemmas
+mod CheckingLemmas
 mod ClosingLemmas
-mod CommandLines
 mod CommitLemmas
 mod Completeness
 mod EndingLemmas

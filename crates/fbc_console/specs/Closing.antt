@@ -27,6 +27,7 @@ pub data Closes (old new : List ℕ → Type 0) (told : List ℕ) (ended last : 
 -- the status by which a call ends, and what its sink took: a status that has a line ends with it
 abbrev pub EndsWith : Outcome → (List ℕ → Type 0) → (List ℕ → Type 0) → List ℕ → Status → Type 0
 EndsWith (Ok done) old new told last = (last ≡ status.Ok) × SinkTakes old new told
+EndsWith (Err status.Damaged) old new told last = (last ≡ status.Damaged) × SinkTakes old new told
 EndsWith (Err status.SinkFault) old new told last = (last ≡ status.SinkFault) × SinkTakesSome old new told
 EndsWith (Err status.OutOfMemory) old new told last = (last ≡ status.OutOfMemory) × SinkTakesPast old new told (status_line status.OutOfMemory)
 EndsWith (Err ended) old new told last = Closes old new told ended last
@@ -39,6 +40,7 @@ pub data IsLineWritten (old new : List ℕ → Type 0) (ended last : Status) : T
 
 abbrev pub IsClosed : Outcome → (List ℕ → Type 0) → (List ℕ → Type 0) → Status → Type 0
 IsClosed (Ok done) old new last = (last ≡ status.Ok) × SinkTakes old new []
+IsClosed (Err status.Damaged) old new last = (last ≡ status.Damaged) × SinkTakes old new []
 IsClosed (Err status.SinkFault) old new last = (last ≡ status.SinkFault) × SinkTakes old new []
 IsClosed (Err status.OutOfMemory) old new last = (last ≡ status.OutOfMemory) × SinkTakesSome old new (status_line status.OutOfMemory)
 IsClosed (Err ended) old new last = IsLineWritten old new ended last

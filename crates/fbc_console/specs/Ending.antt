@@ -1,5 +1,5 @@
 -- How a call of the console ends: how far its command was carried out, what stands on the device, and what was told.
-use Rattle.std.specs.Prelude.{◌≡◌, ◌⊎◌, ℕ, List, [], reverse, Option, Ok, Err}
+use Rattle.std.specs.Prelude.{◌≡◌, ◌⊎◌, ℕ, Bool, List, [], reverse, Option, Ok, Err}
 use Rattle.std.specs.Global.{Global}
 use Rattle.std.specs.declared.string.String.{String}
 use Rattle.fbc_script.specs.declared.single.Step.{Step}
@@ -8,11 +8,13 @@ use Rattle.fbc_script.specs.declared.single.SingleTransaction.TheVariants.{Absen
 use Rattle.fbc_files.specs.declared.relations.NewRelation.{NewRelation}
 use Rattle.fbc_console.specs.declared.statuses.Status.{Status}
 use Rattle.fbc_console.specs.declared.statuses.Status.TheVariants as status
-use Rattle.fbc_console.specs.declared.words.Command.TheVariants as command
+use Rattle.fbc_command_line.specs.declared.commands.Command.TheVariants as command
 use Rattle.fbc_console.specs.Closing.{Outcome, EndsWith}
-use Rattle.fbc_console.specs.Words.{SpellsCommand, IsCommandLine}
+use Rattle.fbc_command_line.specs.Commands.{SpellsCommand, IsCommandLine}
+use Rattle.fbc_console.specs.Checking.{IsCheckDone}
 use Rattle.fbc_console.specs.Making.{IsCreateDone}
-use Rattle.fbc_console.specs.Opening.{WhyNotOpened, IsRecognised, IsFreshDevice, IsOtherDevice}
+use Rattle.fbc_files.specs.Opening.{IsRecognised}
+use Rattle.fbc_console.specs.Opening.{WhyNotOpened, IsFreshDevice, IsOtherDevice}
 use Rattle.fbc_console.specs.Asking.{HasAsked, WhyNotAsked}
 use Rattle.fbc_console.specs.Committing.{IsCommitted, Stands}
 use Rattle.fbc_console.specs.PlayTheorem.{IsPlayOf, IsPartOfPlay}
@@ -66,16 +68,17 @@ pub data IsPlayDone (left before now : Option (List ℕ)) (outcome : Outcome) (t
   stopped : (ended : Status) → outcome ≡ Err ended → WhyNotPlayed left before ended → told ≡ [] → now ≡ before → IsPlayDone left before now outcome told
   played : (asked : SingleTransaction) → IsFreshDevice before → HasAsked left asked → IsFreshPlayed outcome asked told before now → IsPlayDone left before now outcome told
 
--- the words were carried out, or they are no command
-pub data IsCarriedOut (words : List (String Global)) (left before now : Option (List ℕ)) (outcome : Outcome) (told : List ℕ) : Type 0 where
-  no_command : (IsCommandLine words → ⊥) → outcome ≡ Err status.Usage → told ≡ [] → now ≡ before → IsCarriedOut words left before now outcome told
-  no_memory : outcome ≡ Err status.OutOfMemory → told ≡ [] → now ≡ before → IsCarriedOut words left before now outcome told
-  create : (size : ℕ) (relations : List NewRelation) → SpellsCommand words (command.Create size relations) → IsCreateDone size relations before now outcome told → IsCarriedOut words left before now outcome told
-  play : SpellsCommand words command.Play → IsPlayDone left before now outcome told → IsCarriedOut words left before now outcome told
+-- the words were carried out over a file on a device of this reach, or they are no command
+pub data IsCarriedOut (reach : ℕ) (words : List (String Global)) (left before now : Option (List ℕ)) (outcome : Outcome) (told : List ℕ) : Type 0 where
+  no_command : (IsCommandLine words → ⊥) → outcome ≡ Err status.Usage → told ≡ [] → now ≡ before → IsCarriedOut reach words left before now outcome told
+  no_memory : outcome ≡ Err status.OutOfMemory → told ≡ [] → now ≡ before → IsCarriedOut reach words left before now outcome told
+  create : (size : ℕ) (relations : List NewRelation) → SpellsCommand words (command.Create size relations) → IsCreateDone size relations before now outcome told → IsCarriedOut reach words left before now outcome told
+  validate : (json : Bool) → SpellsCommand words (command.Validate json) → IsCheckDone json reach before now outcome told → IsCarriedOut reach words left before now outcome told
+  play : SpellsCommand words command.Play → IsPlayDone left before now outcome told → IsCarriedOut reach words left before now outcome told
 
 -- how a call of the console ends
-pub record HasEnded (words : List (String Global)) (left : Option (List ℕ)) (old new : List ℕ → Type 0) (before now : Option (List ℕ)) (status : Status) : Type 0 where
+pub record HasEnded (reach : ℕ) (words : List (String Global)) (left : Option (List ℕ)) (old new : List ℕ → Type 0) (before now : Option (List ℕ)) (status : Status) : Type 0 where
   pub outcome : Outcome
   pub told : List ℕ
-  pub done : IsCarriedOut words left before now outcome told
+  pub done : IsCarriedOut reach words left before now outcome told
   pub ends : EndsWith outcome old new told status

@@ -1,4 +1,5 @@
 pub mod Asking
+pub mod Checking
 pub mod Closing
 pub mod Committing
 pub mod Completing
@@ -13,5 +14,4 @@ pub mod Script
 pub mod Statuses
 pub mod StoredPages
 pub mod Transaction
-pub mod Words
 pub mod Writes

@@ -15,6 +15,7 @@ status_line status.Ok = []
 status_line status.Usage = line_of (codes "usage")
 status_line (status.Script line why) = line_of (codes "script " ++ fault_text (record { line = line; why = why }))
 status_line (status.NotOurs rule) = line_of (codes "notours " ++ rule_text rule)
+status_line status.Damaged = []
 status_line status.DeviceFault = line_of (codes "device")
 status_line status.SourceFault = line_of (codes "source")
 status_line status.SinkFault = []
@@ -29,6 +30,7 @@ exit_number status.Ok = 0
 exit_number status.Usage = 1
 exit_number (status.Script line why) = 2
 exit_number (status.NotOurs rule) = 3
+exit_number status.Damaged = 3
 exit_number status.DeviceFault = 4
 exit_number status.SourceFault = 5
 exit_number status.SinkFault = 6

@@ -3,6 +3,7 @@
 #![tactic(auto)]
 
 mod asking;
+mod checking;
 mod images;
 mod laws;
 mod making;
@@ -13,7 +14,6 @@ mod statuses;
 mod store;
 mod top_call;
 mod transaction;
-mod words;
 mod writes;
 
 pub use laws::{

@@ -17,6 +17,8 @@ pub enum Status {
     Script { line: u32, why: Why },
     /// The file is none of this store's: its beginning or its length breaks this rule.
     NotOurs { rule: Rule },
+    /// The file was checked and has damage; its report says which.
+    Damaged,
     /// A call of the device was answered Failed.
     DeviceFault,
     /// A call of the source was answered Failed.
@@ -44,7 +46,7 @@ impl Status {
         ensures { IfOk result (λ line. string_bytes line ≡ status_line self) }
     {
         match self {
-            Status::Ok | Status::SinkFault => format!(in alloc; ""),
+            Status::Ok | Status::Damaged | Status::SinkFault => format!(in alloc; ""),
             Status::Usage => format!(in alloc; "usage\n"),
             Status::Script { line, why } => {
                 let fault = ScriptFault { line, why };
@@ -69,6 +71,7 @@ impl Status {
             Status::Usage => 1,
             Status::Script { line: _, why: _ } => 2,
             Status::NotOurs { rule: _ } => 3,
+            Status::Damaged => 3,
             Status::DeviceFault => 4,
             Status::SourceFault => 5,
             Status::SinkFault => 6,

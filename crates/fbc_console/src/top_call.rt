@@ -1,18 +1,19 @@
 //! The top call: words, file, script, play, and the status by which it ends.
 
-ghost use Rattle.std.specs.Prelude.{◌≡◌, ◌≤◌, ◌⊎◌, List, ℕ, OnOk};
+ghost use Rattle.std.specs.Prelude.{◌≡◌, ◌≤◌, ◌^◌, ◌⊎◌, List, ℕ, OnOk};
 ghost use Rattle.fbc_outside.specs.Faults.{Rose};
 ghost use Rattle.fbc_outside.specs.Streams.{SinkTakesSome};
 ghost use Rattle.fbc_console.specs.Statuses.{status_line};
 ghost use Rattle.fbc_console.specs.Script.{IsReadOut, TakesAtMost};
-ghost use Rattle.fbc_console.specs.Words.{SpellsPlay};
+ghost use Rattle.fbc_command_line.specs.Commands.{SpellsPlay};
 ghost use Rattle.fbc_console.specs.Asking.{IsPlayable};
 ghost use Rattle.fbc_console.specs.Opening.{IsFreshDevice};
 ghost use Rattle.fbc_console.specs.Closing.{IsClosed, IsLineWritten, Took};
-ghost use Rattle.fbc_console.specs.Completing.{IsCompleted, IsPlainCreate, IsPlainPlay, NothingFailed};
+ghost use Rattle.fbc_console.specs.Completing.{IsCompleted, IsChecked, IsPlainCheck, IsPlainCreate, IsPlainPlay, NothingFailed};
 ghost use Rattle.fbc_console.specs.Ending.{HasEnded, IsCarriedOut, IsPlayDone, IsFreshPlayed};
 
 use crate::asking::read_asked;
+use crate::checking::check;
 use crate::laws::{
     a_committed_transaction_is_a_play, a_transaction_stands_as_a_whole,
     an_untouched_file_is_an_empty_play, answers_are_the_machines, the_fresh_file_means_no_rows,
@@ -21,7 +22,7 @@ use crate::making::create;
 use crate::opening::{is_fresh, open};
 use crate::playing::play;
 use crate::statuses::{MEMORY_LINE, Status};
-use crate::words::{Command, command_of};
+use fbc_command_line::{Command, command_of, words_spell_one_command};
 use fbc_outside::{Device, Sink, Source, write_all};
 use fbc_script::{SingleTransaction, bytes_spell_one_script};
 use std::alloc::Global;
@@ -34,8 +35,8 @@ pub struct Ended<D> {
 }
 
 /// Carries out the words, without the file's name, over the file on the device, and hands the device
-/// back. `play` reads its script from `script`, and `create` makes a file where nothing stands; all lines are written to `out`, and last that of the
-/// status where it has one (docs/STATUSES.md).
+/// back. `play` reads its script from `script`, `create` makes a file where nothing stands, and
+/// `validate` checks the whole file; all lines are written to `out`, and last that of the status where it has one (docs/STATUSES.md).
 pub fn console<D: Device, S: Source, K: Sink>(
     alloc: Global,
     words: &[String],
@@ -43,8 +44,9 @@ pub fn console<D: Device, S: Source, K: Sink>(
     script: &mut S,
     out: &mut K,
 ) -> Ended<D>
-    requires reach { 262144 ≤ D.reach device }
-    ensures ended { HasEnded words.now (S.left script.old) (K.may_have out.old) (K.may_have out.new) (D.bytes device) (D.bytes result.device) result.status }
+    requires least { 262144 ≤ D.reach device }
+    requires most { D.reach device ≤ 2 ^ 40 }
+    ensures ended { HasEnded (D.reach device) words.now (S.left script.old) (K.may_have out.old) (K.may_have out.new) (D.bytes device) (D.bytes result.device) result.status }
     ensures device_fault { result.status ≡ Status.DeviceFault → Rose (D.faults device) (D.faults result.device) }
     ensures source_fault { result.status ≡ Status.SourceFault → Rose (S.faults script.old) (S.faults script.new) }
     ensures sink_fault { result.status ≡ Status.SinkFault → Rose (K.faults out.old) (K.faults out.new) }
@@ -59,9 +61,12 @@ pub fn console<D: Device, S: Source, K: Sink>(
         → IsPlainPlay words.now (S.left script.old) (D.bytes device) → IsCompleted result.status }
     ensures makes { NothingFailed (D.faults device) (D.faults result.device) (S.faults script.old) (S.faults script.new) (K.faults out.old) (K.faults out.new)
         → IsPlainCreate words.now (D.bytes device) → IsCompleted result.status }
+    ensures checks { NothingFailed (D.faults device) (D.faults result.device) (S.faults script.old) (S.faults script.new) (K.faults out.old) (K.faults out.new)
+        → IsPlainCheck words.now (D.bytes device) → IsChecked result.status }
 {
     bytes_spell_one_script();
     the_fresh_file_means_no_rows();
+    words_spell_one_command();
     let mut device = device;
     let status = run(alloc, words, &mut device, script, out);
     Ended { status, device }
@@ -75,8 +80,9 @@ fn run<D: Device, S: Source, K: Sink>(
     script: &mut S,
     out: &mut K,
 ) -> Status
-    requires reach { 262144 ≤ D.reach device.old }
-    ensures ended { HasEnded words.now (S.left script.old) (K.may_have out.old) (K.may_have out.new) (D.bytes device.old) (D.bytes device.new) result }
+    requires least { 262144 ≤ D.reach device.old }
+    requires most { D.reach device.old ≤ 2 ^ 40 }
+    ensures ended { HasEnded (D.reach device.old) words.now (S.left script.old) (K.may_have out.old) (K.may_have out.new) (D.bytes device.old) (D.bytes device.new) result }
     ensures device_fault { result ≡ Status.DeviceFault → Rose (D.faults device.old) (D.faults device.new) }
     ensures source_fault { result ≡ Status.SourceFault → Rose (S.faults script.old) (S.faults script.new) }
     ensures sink_fault { result ≡ Status.SinkFault → Rose (K.faults out.old) (K.faults out.new) }
@@ -100,8 +106,9 @@ fn carry_out<D: Device, S: Source, K: Sink>(
     script: &mut S,
     out: &mut K,
 ) -> Result<(), Status>
-    requires reach { 262144 ≤ D.reach device.old }
-    ensures done { (told : List ℕ) × IsCarriedOut words.now (S.left script.old) (D.bytes device.old) (D.bytes device.new) result told × Took result (K.may_have out.old) (K.may_have out.new) told }
+    requires least { 262144 ≤ D.reach device.old }
+    requires most { D.reach device.old ≤ 2 ^ 40 }
+    ensures done { (told : List ℕ) × IsCarriedOut (D.reach device.old) words.now (S.left script.old) (D.bytes device.old) (D.bytes device.new) result told × Took result (K.may_have out.old) (K.may_have out.new) told }
     ensures device_fault { result ≡ Err Status.DeviceFault → Rose (D.faults device.old) (D.faults device.new) }
     ensures source_fault { result ≡ Err Status.SourceFault → Rose (S.faults script.old) (S.faults script.new) }
     ensures sink_fault { result ≡ Err Status.SinkFault → Rose (K.faults out.old) (K.faults out.new) }
@@ -118,6 +125,7 @@ fn carry_out<D: Device, S: Source, K: Sink>(
         Ok(Some(Command::Create { size, relations })) => {
             create(alloc, size, relations.items(), device, out)
         }
+        Ok(Some(Command::Validate { json })) => check(alloc, json, device, out),
         Ok(None) => Err(Status::Usage),
         Err(_) => Err(Status::OutOfMemory),
     }
@@ -193,6 +201,7 @@ pub fn end<K: Sink>(alloc: Global, outcome: Result<(), Status>, out: &mut K) -> 
 {
     match outcome {
         Ok(()) => Status::Ok,
+        Err(Status::Damaged) => Status::Damaged,
         Err(Status::SinkFault) => Status::SinkFault,
         Err(Status::OutOfMemory) => end_without_memory(out),
         Err(status) => match status.line(alloc) {

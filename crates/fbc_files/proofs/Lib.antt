@@ -4,6 +4,7 @@ pub mod Making
 pub mod NewEntries
 pub mod NewFits
 pub mod NewSound
+pub mod OpeningLemmas
 pub mod PageWrites
 pub mod ReachedRoles
 pub mod RelationTests

@@ -1,5 +1,6 @@
 pub mod Creating
 pub mod NewPages
+pub mod Opening
 pub mod Pages
 pub mod RelationTests
 pub mod Roles

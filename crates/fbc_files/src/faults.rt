@@ -1,5 +1,6 @@
-//! Why a file was not made.
+//! Why a file was not made, and why one was not opened.
 
+use fbc_kinds::Rule;
 use fbc_outside::Failed;
 use std::alloc::AllocError;
 use thiserror::Error;
@@ -12,6 +13,17 @@ pub enum CreateFault {
     Device,
     #[error("out of memory")]
     Memory,
+}
+
+/// Why a file was not opened.
+#[derive(Clone, Copy, Debug, PartialEq, Eq, Error)]
+pub enum OpenFault {
+    /// The file is none of this store's: the first rule that it breaks.
+    #[error("the file is not one of this store's")]
+    NotOurs(Rule),
+    /// A call of the device was answered Failed.
+    #[error("the device failed")]
+    DeviceFault,
 }
 
 impl From<Failed> for CreateFault {

@@ -1,4 +1,4 @@
-use Rattle.std.proofs.Common.{◌≡◌, ◌≢◌, ◌<◌, ◌≤◌, ◌+◌, ◌*◌, ◌-◌, ◌/◌, ◌%◌, ◌++◌, ◌∷◌, ◌==◌, ◌&&◌, ◌||◌, [], ℕ, zero, suc, Bool, true, false, not, nat_lt, nat_le, List, Option, Some, None, length, get_or, set, replicate, refl, sym, ap, ◌∙◌, inl, inr, subst, arith}
+use Rattle.std.proofs.Common.{◌≡◌, ◌≢◌, ◌<◌, ◌≤◌, ◌+◌, ◌*◌, ◌/◌, ◌%◌, ◌++◌, ◌∷◌, ◌==◌, ◌&&◌, [], ℕ, zero, suc, Bool, true, false, not, nat_lt, List, Some, length, set, refl, sym, ap, ◌∙◌, inl, inr, subst, arith}
 use Rattle.std.specs.Prelude.{slice_get}
 use Rattle.std.proofs.lemmas.Bool.{cases_eq, cases_lt}
 use Rattle.std.proofs.lemmas.Bool.Decides.{nat_tests}
@@ -11,8 +11,8 @@ use Rattle.fbc_kinds.specs.declared.pages.Relation.{Relation}
 use Rattle.fbc_kinds.specs.declared.pages.Tip.{Tip}
 use Rattle.fbc_kinds.specs.declared.pages.State.{State}
 use Rattle.fbc_kinds.specs.declared.pages.State.TheVariants.{Active, Limbo, Dead, Committed}
-use Rattle.fbc_kinds.specs.Limits.{IsPageSize, inventory_bits, inventory_limit, number_limit, pointer_limit, tip_limit, tip_numbers, transaction_limit}
-use Rattle.fbc_kinds.specs.HeaderSpelling.{ArePageNumbers, HaveOwnNames, IsHeader, IsPageNumber, IsRelation}
+use Rattle.fbc_kinds.specs.Limits.{IsPageSize, inventory_bits, inventory_limit, number_limit, pointer_limit, tip_limit, tip_numbers}
+use Rattle.fbc_kinds.specs.HeaderSpelling.{ArePageNumbers, IsHeader, IsRelation}
 use Rattle.fbc_kinds.specs.InventorySpelling.{IsInventory}
 use Rattle.fbc_kinds.specs.TipSpelling.{IsTip}
 use Rattle.fbc_kinds.specs.Edits.{covers, is_next, may_be, stands_in, takes_page, with_mark, with_state}

@@ -1,7 +1,5 @@
-use Rattle.std.proofs.Common.{◌≡◌, ◌≢◌, ◌<◌, ◌≤◌, ◌+◌, ◌*◌, ◌-◌, ◌/◌, ◌%◌, ◌^◌, ◌++◌, ◌∷◌, ◌==◌, ◌&&◌, ◌||◌, [], ℕ, zero, suc, Bool, true, false, not, nat_lt, nat_le, if◌then◌else◌, List, Option, Some, None, length, get_or, set, replicate, refl, sym, ap, ◌∙◌, inl, inr, subst, arith}
+use Rattle.std.proofs.Common.{◌≡◌, ◌<◌, ◌≤◌, ◌/◌, ◌%◌, ◌++◌, ◌∷◌, ◌==◌, ◌&&◌, ◌||◌, [], ℕ, Bool, true, false, not, nat_lt, nat_le, if◌then◌else◌, Option, Some, None, length, set, replicate, refl, sym, ap, ◌∙◌, subst, arith}
 use Rattle.std.specs.Prelude.{IfOk, OnErr, Result, Ok, Err, option_and_then, slice_get}
-use Rattle.std.specs.List.{All}
-use Rattle.std.proofs.lemmas.Bool.{cases_eq}
 use Rattle.std.proofs.lemmas.Bool.Decides.{nat_tests}
 use Rattle.std.proofs.lemmas.List.{get_or-replicate, length-replicate, length-set, nil_from_length}
 use Rattle.std.proofs.lemmas.List.Elements.{All-replicate, All-set}
@@ -18,10 +16,9 @@ use Rattle.fbc_kinds.specs.declared.pages.Header.{Header}
 use Rattle.fbc_kinds.specs.declared.pages.Page.{Page}
 use Rattle.fbc_kinds.specs.declared.pages.Page.TheVariants as page
 use Rattle.fbc_kinds.specs.declared.pages.Relation.{Relation}
-use Rattle.fbc_kinds.specs.declared.pages.State.{State}
 use Rattle.fbc_kinds.specs.declared.pages.State.TheVariants.{Active, Limbo}
 use Rattle.fbc_kinds.specs.declared.shapes.Shape.{Shape}
-use Rattle.fbc_kinds.specs.Limits.{IsPageSize, cells, inventory_bits, inventory_limit, number_limit, pointer_limit, slots, tip_limit, tip_numbers}
+use Rattle.fbc_kinds.specs.Limits.{IsPageSize, cells, inventory_bits, number_limit, pointer_limit, slots, tip_numbers}
 use Rattle.fbc_kinds.specs.HeaderSpelling.{IsHeader}
 use Rattle.fbc_kinds.specs.InventorySpelling.{IsInventory}
 use Rattle.fbc_kinds.specs.TipSpelling.{IsTip}

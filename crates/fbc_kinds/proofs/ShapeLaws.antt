@@ -1,15 +1,15 @@
-use Rattle.std.proofs.Common.{◌≡◌, ◌+◌, ◌-◌, ◌*◌, ◌<◌, ◌≤◌, ℕ, List, length, take, Some, sym, ap, ◌∙◌, arith}
-use Rattle.std.specs.Prelude.{slice_get, slice_range}
+use Rattle.std.proofs.Common.{◌≡◌, ◌+◌, ◌*◌, ◌<◌, ℕ, List, take, Some, sym, ap, ◌∙◌, arith}
+use Rattle.std.specs.Prelude.{slice_get}
 use Rattle.std.proofs.lemmas.Option.{slice_get_within}
 use Rattle.fbc_kinds.specs.declared.pages.Header.{Header}
 use Rattle.fbc_kinds.specs.declared.pages.Relation.{Relation}
 use Rattle.fbc_kinds.specs.declared.shapes.Shape.{Shape}
-use Rattle.fbc_kinds.specs.Head.{number_in, number_at}
+use Rattle.fbc_kinds.specs.Head.{number_in}
 use Rattle.fbc_kinds.specs.Limits.{IsPageSize}
 use Rattle.fbc_kinds.specs.HeaderSpelling.{HasShape, ShowsShape, SpellsHeader, SpellsRelation, SpellsEntry, entry_at, name_in, value_length_in, page_size_in, relation_count_in}
 use Rattle.fbc_kinds.proofs.Heads.{range-take}
 use Rattle.fbc_kinds.proofs.HeaderReading.{name_in-spelled}
-use Rattle.fbc_kinds.proofs.HeaderUnbroken.{NumbersAre, numbers_are}
+use Rattle.fbc_kinds.proofs.HeaderUnbroken.{numbers_are}
 use Rattle.fbc_kinds.proofs.Names.{is_name-short}
 use Rattle.fbc_kinds.proofs.Numbers.{number_in-little_2}
 

@@ -1,5 +1,5 @@
 -- What the bytes of a file say: which view they give, and when a file is sound.
-use Rattle.std.specs.Prelude.{◌≡◌, ◌*◌, ◌==◌, ℕ, List, Bool, true, false, Option, Some, None, length, take, drop}
+use Rattle.std.specs.Prelude.{◌≡◌, ◌*◌, ◌==◌, ℕ, List, Bool, true, Option, Some, None, length, take, drop}
 use Rattle.fbc_kinds.specs.declared.pages.Page.{Page}
 use Rattle.fbc_kinds.specs.declared.pages.Page.TheVariants as kind
 use Rattle.fbc_kinds.specs.declared.shapes.Shape.{Shape}

@@ -5,8 +5,11 @@
 
 mod applying;
 mod commands;
+mod copies;
+mod edges;
 mod edits;
 mod faults;
+pub mod fitting;
 mod listed;
 mod padded;
 mod pages;
@@ -18,6 +21,7 @@ mod snapshots;
 
 pub use applying::{apply, edits_keep_limits};
 pub use commands::Command;
+pub use edges::Edge;
 pub use edits::Edit;
 pub use faults::{ApplyFault, PageFault};
 pub use listed::Listed;

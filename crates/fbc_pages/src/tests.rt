@@ -76,12 +76,17 @@ fn broken(alloc: Global, page: u32, changes: &[Part]) -> Option<Rule> {
     }
 }
 
-/// Pages, by their numbers in the new file, with changes, and the first rule that they break.
-const CASES: &[(u32, &[Part], Rule)] = &[
+/// A page, by its number in the new file, with changes, and the first rule that it breaks.
+type Case = (u32, &'static [Part], Rule);
+
+/// The rules of a header up to its counts.
+const HEADS: &[Case] = &[
     (0, &[(0, &[2])], Rule::Kind),
     (0, &[(0, &[2]), (1, &[2])], Rule::Kind),
     (0, &[(1, &[2])], Rule::Head),
+    (0, &[(2, &[1])], Rule::Head),
     (0, &[(8, &[1])], Rule::Head),
+    (0, &[(12, &[1])], Rule::Head),
     (0, &[(15, &[1]), (4, &[1])], Rule::Head),
     (0, &[(4, &[1])], Rule::Number),
     (0, &[(4, &[1]), (16, &[0])], Rule::Number),
@@ -93,15 +98,30 @@ const CASES: &[(u32, &[Part], Rule)] = &[
     (0, &[(28, &[2]), (32, &[0])], Rule::Version),
     (0, &[(32, &[0])], Rule::Next),
     (0, &[(32, &[0xc1, 0x0f])], Rule::Next),
+    (0, &[(32, &[1, 0xfc]), (40, &[17])], Rule::Next),
+    (0, &[(40, &[0])], Rule::Next),
     (0, &[(32, &[0]), (38, &[0])], Rule::Next),
     (0, &[(38, &[0])], Rule::Count),
     (0, &[(38, &[65])], Rule::Count),
+    (0, &[(36, &[0])], Rule::Count),
     (0, &[(36, &[9])], Rule::Count),
+    (0, &[(40, &[17])], Rule::Count),
+    (0, &[(42, &[1])], Rule::Count),
     (0, &[(43, &[1]), (49, &[0x54])], Rule::Count),
+];
+
+/// The rules of a header from its relations on.
+const RELATIONS: &[Case] = &[
     (0, &[(49, &[0x54])], Rule::Name),
+    (0, &[(49, &[0x30])], Rule::Name),
     (0, &[(48, &[0])], Rule::Name),
+    (0, &[(48, &[2])], Rule::Name),
+    (0, &[(48, &[2, 0x74, 0x2d])], Rule::Name),
+    (0, &[(48, &[16])], Rule::Name),
     (0, &[(63, &[1])], Rule::Name),
+    (0, &[(84, &[1])], Rule::Name),
     (0, &[(99, &[1])], Rule::Name),
+    (0, &[(99, &[1]), (64, &[0])], Rule::Name),
     (
         0,
         &[
@@ -114,18 +134,33 @@ const CASES: &[(u32, &[Part], Rule)] = &[
     (0, &[(49, &[0x54]), (64, &[0])], Rule::Name),
     (0, &[(64, &[0])], Rule::Value),
     (0, &[(64, &[201])], Rule::Value),
+    (0, &[(65, &[1])], Rule::Value),
+    (0, &[(100, &[1])], Rule::Value),
     (0, &[(100, &[1]), (66, &[0])], Rule::Value),
     (0, &[(66, &[0])], Rule::Pointers),
+    (0, &[(66, &[5])], Rule::Pointers),
     (0, &[(68, &[0])], Rule::Pointers),
+    (0, &[(72, &[1])], Rule::Pointers),
+    (0, &[(102, &[1])], Rule::Pointers),
+    (0, &[(104, &[1])], Rule::Pointers),
     (0, &[(72, &[1]), (336, &[0])], Rule::Pointers),
     (0, &[(336, &[0])], Rule::Tips),
+    (0, &[(40, &[2])], Rule::Tips),
+    (0, &[(396, &[1])], Rule::Tips),
     (0, &[(340, &[1]), (44, &[1])], Rule::Tips),
     (0, &[(44, &[1])], Rule::Oldest),
     (0, &[(44, &[1]), (400, &[1])], Rule::Oldest),
+    (0, &[(400, &[1])], Rule::Rest),
     (0, &[(1023, &[1])], Rule::Rest),
+];
+
+/// The rules of page inventories and of transaction inventory pages.
+const INVENTORIES: &[Case] = &[
     (1, &[(0, &[1])], Rule::Kind),
     (1, &[(0, &[1, 2])], Rule::Kind),
+    (1, &[(1, &[2])], Rule::Head),
     (1, &[(2, &[1])], Rule::Head),
+    (1, &[(12, &[1])], Rule::Head),
     (1, &[(2, &[1]), (4, &[2])], Rule::Head),
     (1, &[(4, &[2])], Rule::Number),
     (1, &[(4, &[2]), (16, &[0x0d])], Rule::Number),
@@ -133,25 +168,52 @@ const CASES: &[(u32, &[Part], Rule)] = &[
     (1, &[(16, &[0x0e])], Rule::Bits),
     (2, &[(0, &[4])], Rule::Kind),
     (2, &[(0, &[4]), (12, &[1])], Rule::Kind),
+    (2, &[(1, &[2])], Rule::Head),
     (2, &[(3, &[1])], Rule::Head),
+    (2, &[(12, &[1])], Rule::Head),
     (2, &[(3, &[1]), (4, &[1])], Rule::Head),
     (2, &[(4, &[1])], Rule::Number),
     (2, &[(4, &[1]), (16, &[3])], Rule::Number),
+    (2, &[(16, &[1])], Rule::Zero),
     (2, &[(16, &[3])], Rule::Zero),
     (2, &[(16, &[5])], Rule::Zero),
     (2, &[(16, &[4])], Rule::State),
     (2, &[(1023, &[0x40])], Rule::State),
 ];
 
-#[test]
-fn first_broken_rule_is_answered(rt: HostRuntime) -> Result<(), Fail> {
-    for (page, changes, rule) in CASES {
+fn check_cases(rt: &impl Abort, alloc: Global, cases: &[Case]) {
+    for (page, changes, rule) in cases {
         assert_eq!(rt;
-            broken(rt.alloc(), *page, changes),
+            broken(alloc, *page, changes),
             Some(*rule),
-            "page {page}"
+            "page {page}: {changes:?}"
         );
     }
+}
+
+#[test]
+fn first_broken_rule_is_answered(rt: HostRuntime) {
+    check_cases(&rt, rt.alloc(), HEADS);
+    check_cases(&rt, rt.alloc(), RELATIONS);
+    check_cases(&rt, rt.alloc(), INVENTORIES);
+}
+
+#[test]
+fn later_sequences_owe_other_marks(rt: HostRuntime) -> Result<(), PageFault> {
+    let elsewhere = page_of(INVENTORY, &[(8, &[1]), (16, &[0])]);
+    assert_eq!(rt;
+        decode_inventory(rt.alloc(), 1024, 1, &elsewhere)?.sequence,
+        1
+    );
+    let hidden = page_of(INVENTORY, &[(4, &[0x80, 0x1f]), (8, &[1]), (16, &[0xfe])]);
+    assert_eq!(rt;
+        decode_inventory(rt.alloc(), 1024, 8064, &hidden)
+            .err()
+            .and_then(rule_of),
+        Some(Rule::Bits)
+    );
+    let second = page_of(TIP, &[(8, &[1]), (16, &[3])]);
+    assert_eq!(rt; decode_tip(rt.alloc(), 1024, 2, &second)?.sequence, 1);
     Ok(())
 }
 
@@ -236,10 +298,15 @@ fn pages_are_read_and_written_again(rt: HostRuntime) -> Result<(), PageFault> {
 const FILES: &[(u64, &[Part], Option<Rule>)] = &[
     (4096, &[], None),
     (1024, &[], None),
+    (2048, &[(25, &[8])], None),
+    (3072, &[(25, &[8])], Some(Rule::Length)),
     (4096, &[(0, &[0])], Some(Rule::Kind)),
     (4096, &[(0, &[0, 0])], Some(Rule::Kind)),
     (4096, &[(1, &[0])], Some(Rule::Head)),
+    (4096, &[(2, &[1])], Some(Rule::Head)),
     (4096, &[(4, &[1])], Some(Rule::Head)),
+    (4096, &[(8, &[1])], Some(Rule::Head)),
+    (4096, &[(12, &[1])], Some(Rule::Head)),
     (4096, &[(1, &[0]), (16, &[0])], Some(Rule::Head)),
     (4096, &[(16, &[0])], Some(Rule::Magic)),
     (4096, &[(23, &[0]), (24, &[0xe8, 3])], Some(Rule::Magic)),
@@ -252,17 +319,23 @@ const FILES: &[(u64, &[Part], Option<Rule>)] = &[
     (4096, &[(32, &[0])], Some(Rule::Next)),
     (4096, &[(32, &[0]), (38, &[0])], Some(Rule::Next)),
     (4096, &[(38, &[0])], Some(Rule::Count)),
+    (4096, &[(43, &[1]), (49, &[0x54])], Some(Rule::Count)),
     (4096, &[(49, &[0x54])], Some(Rule::Name)),
+    (4096, &[(49, &[0x54]), (64, &[0])], Some(Rule::Name)),
     (4096, &[(64, &[0])], Some(Rule::Value)),
+    (4096, &[(100, &[1]), (66, &[0])], Some(Rule::Value)),
     (4096, &[(68, &[0])], Some(Rule::Pointers)),
+    (4096, &[(72, &[1]), (336, &[0])], Some(Rule::Pointers)),
     (4096, &[(336, &[0])], Some(Rule::Tips)),
+    (4096, &[(340, &[1]), (44, &[1])], Some(Rule::Tips)),
     (4096, &[(44, &[1])], Some(Rule::Oldest)),
+    (4096, &[(44, &[1]), (400, &[1])], Some(Rule::Oldest)),
     (4096, &[(1023, &[1])], Some(Rule::Rest)),
 ];
 
 #[test]
 fn files_are_recognised(rt: HostRuntime) -> Result<(), Fail> {
-    assert_eq!(rt; recognise(&[0; 500], 500, 500).err(), Some(Rule::Short));
+    assert_eq!(rt; recognise(&[0; 1023], 1023, 1023).err(), Some(Rule::Short));
     assert_eq!(rt;
         recognise(&[0; 1024], 4096, 1 << 40).err(),
         Some(Rule::Kind)
@@ -284,7 +357,7 @@ fn files_are_recognised(rt: HostRuntime) -> Result<(), Fail> {
 }
 
 /// The counts of a page size: numbers of a transaction inventory page, the greatest transaction
-/// number, and pages of a page inventory.
+/// number, and pages of a page inventory; and that a header is judged up to its last byte.
 fn check_size(
     rt: &impl Abort,
     alloc: Global,
@@ -314,6 +387,12 @@ fn check_size(
     assert_eq!(rt;
         decode_header(alloc, size, &bytes).err().and_then(rule_of),
         Some(Rule::Next)
+    );
+    lay(&mut bytes, 32, &limit.to_le_bytes());
+    lay(&mut bytes, size as usize - 1, &[1]);
+    assert_eq!(rt;
+        decode_header(alloc, size, &bytes).err().and_then(rule_of),
+        Some(Rule::Rest)
     );
     Ok(())
 }

@@ -16,7 +16,7 @@ use Rattle.fbc_validator.specs.Links.{Link, is_relation, is_smaller_back, is_bac
 use Rattle.fbc_validator.proofs.Members.{In, in_left, in_right, in_filter, in_flat_map, any_here, find_in}
 use Rattle.fbc_validator.proofs.Reached.{AreSingle, first_of, from_data, data_walked}
 
-cell_stands : (o : Option Page) (cell : ℕ) (version : Cell) → cell_in o cell ≡ Some version → slice_get (cells_of o) cell ≡ Some version
+pub cell_stands : (o : Option Page) (cell : ℕ) (version : Cell) → cell_in o cell ≡ Some version → slice_get (cells_of o) cell ≡ Some version
 cell_stands (Some (kind.Data d)) cell version e = e
 cell_stands _ cell version e = cc
 

@@ -48,7 +48,7 @@ module _ (view : View) where
   abbrev pointers : List Naming
   pointers = pointer_namings (header_of view)
 
-  from_inventories : (n : Naming) → In counted n → In (namings view) n
+  pub from_inventories : (n : Naming) → In counted n → In (namings view) n
   from_inventories n i = inr (in_left (counted ++ states ++ pointers) (data_namings view) n (in_left (counted ++ states) pointers n (in_left counted states n i)))
 
   from_tips : (n : Naming) → In states n → In (namings view) n

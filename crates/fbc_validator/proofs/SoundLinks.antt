@@ -14,7 +14,7 @@ use Rattle.fbc_validator.proofs.Members.{In, in_either, filter_in, flat_map_in}
 use Rattle.fbc_validator.proofs.DataNamings.{HaveAllSlots}
 use Rattle.fbc_validator.proofs.Reached.{data_of_naming}
 
-stands_cell : (o : Option Page) (cell : ℕ) (version : Cell) → slice_get (cells_of o) cell ≡ Some version → cell_in o cell ≡ Some version
+pub stands_cell : (o : Option Page) (cell : ℕ) (version : Cell) → slice_get (cells_of o) cell ≡ Some version → cell_in o cell ≡ Some version
 stands_cell (Some (kind.Data d)) cell version e = e
 stands_cell None cell version e = cc
 stands_cell (Some (kind.Header h)) cell version e = cc

@@ -88,7 +88,7 @@ module _ (shape : Shape) (bytes : List ℕ) (view : View) (size : IsPageSize sha
   reached : (n : Naming) → In (namings view) n → reach.page_for view (reached_as n.role) ≡ Some n.page
   reached n i = naming_reached view (all_slots shape bytes view shown) n i
 
-  one : AreSingle view
+  pub one : AreSingle view
   one n m i j same =
       sym (as_named_reached n.role)
       ∙ ap as_named (sound.once (reached_as n.role) (reached_as m.role) n.page (reached n i) (reached m j ∙ ap Some (sym same)))
@@ -184,12 +184,15 @@ module _ (shape : Shape) (bytes : List ℕ) (view : View) (size : IsPageSize sha
       (test_of_same _ _ (sym (ap (λ (k : Link). k.page) from.is) ∙ same.0 ∙ ap (λ (k : Link). k.page) of.is))
       (test_of_same _ _ (sym (ap (λ (k : Link). k.cell) from.is) ∙ same.1 ∙ ap (λ (k : Link). k.cell) of.is))
 
+  pub faultless : (l : Link) → In (links view) l → is_faulty (links view) l ≡ false
+  faultless l i =
+      let of = link_from view (all_slots shape bytes view shown) l i in
+      neither _ _ (not_of_true _ (link_good l of)) (not_of_true _ (is_first_link l i of))
+
   chained : (p : ℕ) → breaks_chain view p ≡ false
   chained p =
       any_none (λ (link : Link). (link.page == p) && is_faulty (links view) link) (links view)
-      (λ l i.
-      let of = link_from view (all_slots shape bytes view shown) l i in
-      and_fails_right (l.page == p) _ (neither _ _ (not_of_true _ (link_good l of)) (not_of_true _ (is_first_link l i of))))
+      (λ l i. and_fails_right (l.page == p) _ (faultless l i))
 
   all_committed : (l : Link) → IsLinkOf view l → is_uncommitted view (cell_at view l.back_page l.back_cell) ≡ false
   all_committed l of = go (cell_at view l.back_page l.back_cell) refl

@@ -9,7 +9,7 @@ use Rattle.fbc_validator.specs.Walk.{naming, is_of_page}
 use Rattle.fbc_validator.specs.declared.namings.Naming.{Naming}
 use Rattle.fbc_validator.specs.declared.namings.Role.{Role}
 
-or_false : (b : Bool) → (b || false) ≡ b
+pub or_false : (b : Bool) → (b || false) ≡ b
 or_false true = refl
 or_false false = refl
 

@@ -32,7 +32,7 @@ module _ (shape : Shape) (bytes : List ℕ) (view : View) (shown : IsViewOf shap
   pub shows : (page : ℕ) (stands : Page) → view page ≡ Some stands → ShowsPage shape page (page_bytes shape.size bytes page) stands
   shows page stands e = let P : Option Page → Type 0 = Shows shape page (page_bytes shape.size bytes page) in subst P e (shown page)
 
-  header_size : (h : Header) → header_of view ≡ Some h → size_of view ≡ shape.size
+  pub header_size : (h : Header) → header_of view ≡ Some h → size_of view ≡ shape.size
   header_size h is =
       let s = shows 0 (kind.Header h) (header_stands (view 0) h is) in
       ap (λ o. option_map_or (λ (g : Header). g.size) o 0) is ∙ s.spelled.fits.page_size

@@ -27,11 +27,11 @@ use Rattle.fbc_validator.specs.declared.tally.Tally.{Tally}
 use Rattle.fbc_validator.proofs.Shows.{shown_code}
 use Rattle.fbc_validator.proofs.Undamaged.{all_slots, shows}
 
-and_false : (b : Bool) → (b && false) ≡ false
+pub and_false : (b : Bool) → (b && false) ≡ false
 and_false true = refl
 and_false false = refl
 
-and_true : (b : Bool) → (b && true) ≡ b
+pub and_true : (b : Bool) → (b && true) ≡ b
 and_true true = refl
 and_true false = refl
 
@@ -82,11 +82,11 @@ pointer_found h page =
     ∙ pointers_own page 0 h.relations
 
 -- a page that no naming of a header names is named by none of its pointer pages' namings
-none_later : (a b : Option Naming) → option_or a b ≡ None → b ≡ None
+pub none_later : (a b : Option Naming) → option_or a b ≡ None → b ≡ None
 none_later None b e = e
 none_later (Some n) b e = cc
 
-none_behind : (b : Bool) (n : Naming) (o : Option Naming) → cond b (Some n) o ≡ None → o ≡ None
+pub none_behind : (b : Bool) (n : Naming) (o : Option Naming) → cond b (Some n) o ≡ None → o ≡ None
 none_behind true n o e = cc
 none_behind false n o e = e
 
@@ -97,7 +97,7 @@ not_pointed h page none =
     none_later (find (is_of_page page) (inventory_namings (Some h) ++ tip_namings (Some h))) (find (is_of_page page) (pointer_namings (Some h)))
     (sym (find-append (is_of_page page) (inventory_namings (Some h) ++ tip_namings (Some h)) (pointer_namings (Some h))) ∙ later)
 
-walked_in : (named : Role) (o : Option Naming) → is_walked_for named (role_of o) ≡ is_in_role named o
+pub walked_in : (named : Role) (o : Option Naming) → is_walked_for named (role_of o) ≡ is_in_role named o
 walked_in named None = refl
 walked_in named (Some n) = refl
 
@@ -174,12 +174,12 @@ module _ (shape : Shape) (bytes : List ℕ) (view : View) (shown : IsViewOf shap
   as_named page (role.Tip s) o kept = none_kept (role.Tip s) (λ c. refl) o ∙ sym (nothing_if (is_in_role (role.Tip s) (first_of page)))
   as_named page (role.Data r s) o kept = none_kept (role.Data r s) (λ c. refl) o ∙ sym (nothing_if (is_in_role (role.Data r s) (first_of page)))
 
-joined_if : (f : Naming → List Naming) (p : Naming → Bool) (x : Naming) (xs : List Naming) (b : Bool)
+joined_if : {Y : Type 0} (f : Naming → List Y) (p : Naming → Bool) (x : Naming) (xs : List Naming) (b : Bool)
     → ((if b then f x else []) ++ flat_map f (filter p xs)) ≡ flat_map f (cond b (x ∷ filter p xs) (filter p xs))
 joined_if f p x xs true = refl
 joined_if f p x xs false = refl
 
-flat_filter : (f g : Naming → List Naming) (p : Naming → Bool) → ((n : Naming) → g n ≡ (if p n then f n else [])) → (xs : List Naming) → flat_map g xs ≡ flat_map f (filter p xs)
+pub flat_filter : {Y : Type 0} (f g : Naming → List Y) (p : Naming → Bool) → ((n : Naming) → g n ≡ (if p n then f n else [])) → (xs : List Naming) → flat_map g xs ≡ flat_map f (filter p xs)
 flat_filter f g p same [] = refl
 flat_filter f g p same (x ∷ xs) =
     ap (λ names. names ++ flat_map g xs) (same x)
@@ -216,24 +216,30 @@ tally_names shape bytes view shown h is tally kept =
     (pointer_namings (Some h))
     ∙ ap (λ o. flat_map (named_by view) (walked (pointer_namings o))) (sym is)
 
--- a tally of a header's namings, and then of what the pointer pages name, is one of all namings
-pub all_named : (shape : Shape) (bytes : List ℕ) (view : View) → IsViewOf shape bytes view → (h : Header) → header_of view ≡ Some h
-    → (one two : Tally) (told now : Option (List ℕ)) (named found : List Naming)
-    → told ≡ Some bytes → now ≡ told
-    → named ≡ inventory_namings (Some h) ++ tip_namings (Some h) ++ pointer_namings (Some h)
-    → found ≡ named_by_tally one named
-    → IsTallyOf shape told (naming 0 role.Header ∷ named) one
-    → ((done : List Naming) → IsTallyOf shape now done one → IsTallyOf shape now (done ++ found) two)
-    → IsTallyOf shape (Some bytes) (namings view) two
-all_named shape bytes view shown h is one two told now named found tells same row from kept notes =
-    let by_row : List Naming → Type 0 = λ all. IsTallyOf shape told (naming 0 role.Header ∷ all) one in
-    let by_file : Option (List ℕ) → Type 0 = λ file. IsTallyOf shape file (header_done h) one in
-    let first : IsTallyOf shape (Some bytes) (header_done h) one = subst by_file tells (subst by_row row kept) in
-    let by_step : Option (List ℕ) → Type 0 = λ file. IsTallyOf shape file (header_done h) one → IsTallyOf shape file (header_done h ++ found) two in
-    let second : IsTallyOf shape (Some bytes) (header_done h ++ found) two = subst by_step (same ∙ tells) (notes (header_done h)) first in
-    let all : found ≡ data_namings view = from ∙ ap (named_by_tally one) row ∙ tally_names shape bytes view shown h is one first in
-    let by_data : List Naming → Type 0 = λ pages. IsTallyOf shape (Some bytes) (header_done h ++ pages) two in
-    let by_header : Option Header → Type 0 =
-    λ o. IsTallyOf shape (Some bytes) (naming 0 role.Header ∷ inventory_namings o ++ tip_namings o ++ pointer_namings o ++ data_namings view) two
-    in
-    subst by_header (sym is) (subst by_data all second)
+-- what a tally of a header's namings gives as the data pages is what the pointer pages name
+module _ (shape : Shape) (bytes : List ℕ) (view : View) (shown : IsViewOf shape bytes view) (h : Header) (is : header_of view ≡ Some h)
+    (one : Tally) (told : Option (List ℕ)) (named found : List Naming) (tells : told ≡ Some bytes)
+    (row : named ≡ inventory_namings (Some h) ++ tip_namings (Some h) ++ pointer_namings (Some h))
+    (from : found ≡ named_by_tally one named)
+    (kept : IsTallyOf shape told (naming 0 role.Header ∷ named) one) where
+  kept_first : IsTallyOf shape (Some bytes) (header_done h) one
+  kept_first =
+      let by_row : List Naming → Type 0 = λ all. IsTallyOf shape told (naming 0 role.Header ∷ all) one in
+      let by_file : Option (List ℕ) → Type 0 = λ file. IsTallyOf shape file (header_done h) one in
+      subst by_file tells (subst by_row row kept)
+
+  pub found_named : found ≡ data_namings view
+  found_named = from ∙ ap (named_by_tally one) row ∙ tally_names shape bytes view shown h is one kept_first
+
+  -- and with them it is a tally of all namings
+  pub all_named : (two : Tally) (now : Option (List ℕ)) → now ≡ told
+      → ((done : List Naming) → IsTallyOf shape now done one → IsTallyOf shape now (done ++ found) two)
+      → IsTallyOf shape (Some bytes) (namings view) two
+  all_named two now same notes =
+      let by_step : Option (List ℕ) → Type 0 = λ file. IsTallyOf shape file (header_done h) one → IsTallyOf shape file (header_done h ++ found) two in
+      let second : IsTallyOf shape (Some bytes) (header_done h ++ found) two = subst by_step (same ∙ tells) (notes (header_done h)) kept_first in
+      let by_data : List Naming → Type 0 = λ pages. IsTallyOf shape (Some bytes) (header_done h ++ pages) two in
+      let by_header : Option Header → Type 0 =
+      λ o. IsTallyOf shape (Some bytes) (naming 0 role.Header ∷ inventory_namings o ++ tip_namings o ++ pointer_namings o ++ data_namings view) two
+      in
+      subst by_header (sym is) (subst by_data found_named second)

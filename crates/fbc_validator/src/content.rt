@@ -10,7 +10,7 @@ use std::alloc::{AllocError, Global};
 
 /// A cell of a data page without its value.
 #[derive(Clone, Copy, Debug, PartialEq, Eq)]
-pub struct Version {
+pub(crate) struct Version {
     pub flag: Flag,
     pub number: u32,
     pub back_page: u32,
@@ -19,7 +19,7 @@ pub struct Version {
 
 /// What the walk goes by, by the kind of a page.
 #[derive(Debug, Drop)]
-pub enum Content {
+pub(crate) enum Content {
     Inventory {
         sequence: u32,
         taken: Listed<bool>,
@@ -44,7 +44,7 @@ pub enum Content {
 
 /// A page that was read.
 #[derive(Debug, Drop)]
-pub struct PageRead {
+pub(crate) struct PageRead {
     /// The byte that names its kind.
     pub kind: u8,
     /// The first rule that its bytes break.
@@ -53,7 +53,7 @@ pub struct PageRead {
 }
 
 /// The page that these bytes show, without what the walk does not need.
-pub fn content_shown(
+pub(crate) fn content_shown(
     alloc: Global,
     shape: &Shape,
     number: u32,

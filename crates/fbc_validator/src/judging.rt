@@ -14,7 +14,7 @@ use crate::namings::Role;
 use fbc_kinds::{Flag, State};
 
 /// The byte that names the kind of a role's pages.
-pub fn kind_code(role: Role) -> u8
+pub(crate) fn kind_code(role: Role) -> u8
     ensures { result ≡ kind_code role }
 {
     match role {
@@ -27,7 +27,7 @@ pub fn kind_code(role: Role) -> u8
 }
 
 /// Whether a page of the role's kind is of another relation than the role's.
-pub fn has_other_relation(role: Role, content: &Content) -> bool
+pub(crate) fn has_other_relation(role: Role, content: &Content) -> bool
     ensures { result ≡ differs_in_relation role content.now }
 {
     match (role, content) {
@@ -40,7 +40,7 @@ pub fn has_other_relation(role: Role, content: &Content) -> bool
 }
 
 /// Whether a page of the role's kind has another sequence than the role's.
-pub fn has_other_sequence(role: Role, content: &Content) -> bool
+pub(crate) fn has_other_sequence(role: Role, content: &Content) -> bool
     ensures { result ≡ differs_in_sequence role content.now }
 {
     match (role, content) {
@@ -57,7 +57,7 @@ pub fn has_other_sequence(role: Role, content: &Content) -> bool
 }
 
 /// Whether a version has a number that is not below the next one.
-pub fn is_late(version: &Version, next: u32) -> bool
+pub(crate) fn is_late(version: &Version, next: u32) -> bool
     ensures { result ≡ is_late next version.now }
 {
     version.flag != Flag::Empty && version.number >= next
@@ -65,7 +65,7 @@ pub fn is_late(version: &Version, next: u32) -> bool
 
 /// Whether a state that is not active belongs to a number that is not below the next one; the first
 /// state is that of the number `first`.
-pub fn has_late_state(states: &[State], first: u64, next: u32) -> bool
+pub(crate) fn has_late_state(states: &[State], first: u64, next: u32) -> bool
     requires { first < 2 ^ 63 }
     ensures { result ≡ has_late_state next first states.now }
 {

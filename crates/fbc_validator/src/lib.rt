@@ -1,29 +1,34 @@
-//! The check of a whole file, as far as it is built: what its findings are, which pages are damaged
-//! and by which rule, the reading and judging of single pages, and the walk over all of them. The
-//! chains of versions and the lists of findings are not there yet.
+//! The check of a whole file: whether it has damage, and by which rule each damaged page; and where it
+//! has none, the lost pages and the lost cells. The file is opened, the pages that it names are walked,
+//! each read once and judged in all its roles, and the chains of versions are followed. A file has no
+//! damage exactly where it is sound.
 #![tactic(auto)]
 
+mod chains;
 mod content;
+mod damages;
 mod faults;
 mod findings;
 mod judging;
 mod laws;
+mod lost;
+mod marks;
 mod namings;
 mod reading;
 mod shown;
 mod tally;
+mod validating;
+mod versions;
 mod walking;
 
-pub use content::{Content, PageRead, Version, content_shown};
 pub use faults::ValidateFault;
 pub use findings::Findings;
-pub use judging::{has_late_state, has_other_relation, has_other_sequence, is_late, kind_code};
 pub use laws::sound_without_damage;
-pub use namings::{Naming, Role, header_namings, push_slots};
-pub use reading::{read_content, read_page};
-pub use shown::page_shown;
-pub use tally::{NamedPage, Tally};
-pub use walking::{data_namings, walk};
+pub use validating::validate;
 
+#[cfg(test)]
+mod chain_tests;
+#[cfg(test)]
+mod file_tests;
 #[cfg(test)]
 mod tests;

@@ -14,7 +14,7 @@ use std::alloc::{AllocError, Global};
 /// A role that a page can have in a file: its kind, and where that has them its relation and its
 /// sequence.
 #[derive(Clone, Copy, Debug, PartialEq, Eq)]
-pub enum Role {
+pub(crate) enum Role {
     Header,
     Inventory { sequence: u32 },
     Tip { sequence: u32 },
@@ -24,13 +24,13 @@ pub enum Role {
 
 /// A page that is named in a role.
 #[derive(Clone, Copy, Debug, PartialEq, Eq)]
-pub struct Naming {
+pub(crate) struct Naming {
     pub page: u32,
     pub role: Role,
 }
 
 /// The pages that a header names: page inventories, transaction inventory pages, pointer pages.
-pub fn header_namings(alloc: Global, header: &Header) -> Result<Vec<Naming>, AllocError>
+pub(crate) fn header_namings(alloc: Global, header: &Header) -> Result<Vec<Naming>, AllocError>
     requires size { IsPageSize header.now.size }
     requires header { IsHeader header.now.size header.now }
     ensures { IfOk result (λ namings. namings.items
@@ -61,7 +61,7 @@ fn push_inventories(namings: &mut Vec<Naming>, size: u32, count: u16) -> Result<
 }
 
 /// Where the page inventory of a sequence stands.
-fn inventory_page(size: u32, sequence: u16) -> u32
+pub(crate) fn inventory_page(size: u32, sequence: u16) -> u32
     requires size { IsPageSize size }
     requires sequence { sequence < inventory_limit }
     ensures { result ≡ inventory_page size sequence }
@@ -122,7 +122,7 @@ fn push_pointers(
 }
 
 /// Adds the data pages that a pointer page of this sequence names in its slots.
-pub fn push_slots(
+pub(crate) fn push_slots(
     namings: &mut Vec<Naming>,
     relation: u8,
     sequence: u32,

@@ -14,7 +14,11 @@ use std::alloc::Global;
 
 /// Reads the bytes in a page's place into `buffer`, which has the page's size: zeros past the
 /// file's end. The device's bytes stay as they are.
-pub fn read_page<D: Device>(device: &mut D, number: u32, buffer: &mut [u8]) -> Result<(), Failed>
+pub(crate) fn read_page<D: Device>(
+    device: &mut D,
+    number: u32,
+    buffer: &mut [u8],
+) -> Result<(), Failed>
     requires size { length buffer.old ≤ 16384 }
     ensures read { OnOk result (AreBytesOf (D.bytes device.old) (length buffer.old) number buffer.new) }
     ensures length { length buffer.new ≡ length buffer.old }
@@ -33,7 +37,7 @@ pub fn read_page<D: Device>(device: &mut D, number: u32, buffer: &mut [u8]) -> R
 
 /// Reads the page of a number, at most once, and keeps of it what the walk needs. The device's
 /// bytes stay as they are.
-pub fn read_content<D: Device>(
+pub(crate) fn read_content<D: Device>(
     alloc: Global,
     device: &mut D,
     shape: &Shape,
@@ -55,7 +59,7 @@ pub fn read_content<D: Device>(
 }
 
 /// Reads the bytes in a page's place.
-fn read_bytes<D: Device>(
+pub(crate) fn read_bytes<D: Device>(
     alloc: Global,
     device: &mut D,
     size: u32,

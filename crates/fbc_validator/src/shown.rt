@@ -20,7 +20,7 @@ use std::alloc::Global;
 /// # Errors
 ///
 /// `Damaged` names the first rule that the bytes break, exactly where they show no page.
-pub fn page_shown(
+pub(crate) fn page_shown(
     alloc: Global,
     shape: &Shape,
     number: u32,

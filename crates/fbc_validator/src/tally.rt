@@ -1,7 +1,8 @@
 //! The pages that were named, and what was found of each in its roles.
 
-ghost use Rattle.std.specs.Prelude.{◌≡◌, ◌≤◌, ◌++◌, ◌∷◌, [], ℕ, List, Option, true, false, Some, None, find, is_some, nat_eq, if◌then◌else◌, IfErr, OnOk, OnErr, Err, ◌⊎◌};
+ghost use Rattle.std.specs.Prelude.{◌≡◌, ◌↔◌, ◌≤◌, ◌++◌, ◌∷◌, [], ℕ, List, Option, true, false, Some, None, find, is_some, nat_eq, if◌then◌else◌, Contains, IfOk, IfErr, OnOk, OnErr, Err, ◌⊎◌};
 ghost use Rattle.std.specs.List.{list_any};
+ghost use Rattle.std.specs.List.Sorted.{IsStrictlyIncreasing};
 ghost use Rattle.std.specs.Option.{option_copied, option_or};
 ghost use Rattle.indexmap.specs.IndexMap.{get};
 ghost use Rattle.fbc_kinds.specs.HeaderSpelling.{IsShape};
@@ -26,7 +27,7 @@ use std::alloc::{AllocError, Global};
 
 /// A page that was named.
 #[derive(Debug, Drop)]
-pub struct NamedPage {
+pub(crate) struct NamedPage {
     /// What was read of it, once.
     pub read: PageRead,
     /// A data page has a version of a number that is not below the next one.
@@ -49,7 +50,7 @@ pub struct NamedPage {
 
 /// The pages that were named so far, in the order of their first namings.
 #[derive(Drop)]
-pub struct Tally {
+pub(crate) struct Tally {
     /// The next number of the file.
     pub next: u32,
     pub pages: IndexMap<u32, NamedPage>,
@@ -167,7 +168,7 @@ fn is_late_in(role: Role, content: &Content, late_version: bool, size: u32, next
 
 impl Tally {
     /// No page was named yet; the file's next number is `next`.
-    pub fn new(alloc: Global, next: u32) -> Tally
+    pub(crate) fn new(alloc: Global, next: u32) -> Tally
         ensures next { result.next ≡ next }
         ensures none { (page : ℕ) → get nat_eq result.pages page ≡ None }
         ensures empty { (shape : Shape) (file : Option (List ℕ)) → IsTallyOf shape file [] result }
@@ -179,15 +180,28 @@ impl Tally {
     }
 
     /// What is kept of a page.
-    pub fn get(&self, page: u32) -> Option<&NamedPage>
+    pub(crate) fn get(&self, page: u32) -> Option<&NamedPage>
         ensures { option_copied result ≡ get nat_eq self.now.pages page }
     {
         self.pages.get(&page)
     }
 
+    /// The pages that were named, rising.
+    pub(crate) fn named_pages(&self, alloc: Global) -> Result<Vec<u32>, AllocError>
+        ensures rise { IfOk result (λ pages. IsStrictlyIncreasing pages.items) }
+        ensures each { IfOk result (λ pages. (page : ℕ) → Contains pages.items page ↔ (is_some (get nat_eq self.now.pages page) ≡ true)) }
+    {
+        let mut pages = Vec::new(alloc);
+        for page in self.pages.keys() {
+            pages.push(*page)?;
+        }
+        pages.sort_unstable();
+        Ok(pages)
+    }
+
     /// Notes one naming more. A page is read at the first of its namings, and never again. The
     /// device's bytes stay as they are.
-    pub fn note<D: Device>(
+    pub(crate) fn note<D: Device>(
         &mut self,
         alloc: Global,
         device: &mut D,
@@ -219,7 +233,7 @@ impl Tally {
     }
 
     /// Notes these namings, one behind the other. The device's bytes stay as they are.
-    pub fn note_all<D: Device>(
+    pub(crate) fn note_all<D: Device>(
         &mut self,
         alloc: Global,
         device: &mut D,

@@ -3,14 +3,17 @@
 ghost use Rattle.std.specs.Prelude.{◌≡◌, ◌≤◌, length as list_length, IfOk, IfSome};
 ghost use Rattle.fbc_kinds.specs.HeaderSpelling.{IsShape};
 
-use crate::{Naming, Role, Tally, ValidateFault, header_namings, push_slots, read_content};
+use crate::ValidateFault;
+use crate::namings::{Naming, Role, header_namings, push_slots};
+use crate::reading::read_content;
+use crate::tally::Tally;
 use fbc_kinds::{PageFault, Rule, Shape};
 use fbc_outside::{CallKind, Fail, MemoryDevice};
 use fbc_pages::{decode_header, recognise};
 use std::alloc::{AllocError, Global};
 
 /// Bytes from a place on.
-type Part = (usize, &'static [u8]);
+pub(crate) type Part = (usize, &'static [u8]);
 
 /// The pages of that file one behind the other; a state of the transaction inventory page is one
 /// that none may have.
@@ -32,8 +35,8 @@ const FILE: &[Part] = &[
 ];
 
 /// Lays the parts that have room.
-fn lay(out: &mut [u8]) {
-    for (at, part) in FILE {
+pub(crate) fn lay(parts: &[Part], out: &mut [u8]) {
+    for (at, part) in parts {
         if *at <= out.len() && part.len() <= out.len() - *at {
             out[*at..*at + part.len()].copy_from_slice(part);
         }
@@ -43,19 +46,19 @@ fn lay(out: &mut [u8]) {
 /// That file's bytes.
 fn file() -> [u8; 5120] {
     let mut bytes = [0; 5120];
-    lay(&mut bytes);
+    lay(FILE, &mut bytes);
     bytes
 }
 
 /// The bytes of its first page.
 fn first_page() -> [u8; 1024] {
     let mut bytes = [0; 1024];
-    lay(&mut bytes);
+    lay(FILE, &mut bytes);
     bytes
 }
 
 /// The file's shape, where its device reaches to seven pages.
-fn shape() -> Option<Shape>
+pub(crate) fn shape() -> Option<Shape>
     ensures { IfSome result IsShape }
 {
     let first = first_page();

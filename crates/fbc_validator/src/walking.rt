@@ -9,7 +9,7 @@ ghost use Rattle.fbc_outside.specs.Faults.{Rose};
 ghost use Rattle.fbc_validator.specs.Content.{IsReadOf};
 ghost use Rattle.fbc_validator.specs.Roles.{is_same_role};
 ghost use Rattle.fbc_validator.specs.Tally.{HasFewSlots, IsTallyOf, KeepsFewSlots, HasFewPlaces, is_walked_for, named_as_kept, named_by_tally, named_in_content};
-ghost use Rattle.fbc_validator.specs.Walk.{namings};
+ghost use Rattle.fbc_validator.specs.Walk.{data_namings, namings};
 ghost use Rattle.fbc_validator.specs.declared.namings.Naming.{Naming};
 
 use crate::content::{Content, PageRead};
@@ -20,25 +20,39 @@ use fbc_kinds::{Header, Shape};
 use fbc_outside::Device;
 use std::alloc::{AllocError, Global};
 
+/// What a walk gave.
+#[derive(Drop)]
+pub(crate) struct Visited {
+    /// What was found of each page that is named.
+    pub tally: Tally,
+    /// The data pages that the pointer pages name, in the order of the walk.
+    pub found: Vec<Naming>,
+}
+
 /// Notes all pages of the file of this header, whose first page was read. Each of the others is read
 /// at the first of its namings. The device's bytes stay as they are.
-pub fn walk<D: Device>(
+pub(crate) fn walk<D: Device>(
     alloc: Global,
     device: &mut D,
     shape: &Shape,
     header: &Header,
     first: PageRead,
-) -> Result<Tally, ValidateFault>
+) -> Result<Visited, ValidateFault>
     requires shape { IsShape shape.now }
     requires header { IsHeader header.now.size header.now }
     requires size { header.now.size ≡ shape.now.size }
     requires first { IsReadOf shape.now 0 (D.bytes device.old) first }
-    ensures walked { IfOk result (λ tally. (bytes : List ℕ) (view : View)
+    ensures walked { IfOk result (λ visited. (bytes : List ℕ) (view : View)
         → D.bytes device.old ≡ Some bytes
         → IsViewOf shape.now bytes view
         → header_of view ≡ Some header.now
-        → IsTallyOf shape.now (Some bytes) (namings view) tally) }
-    ensures next { IfOk result (λ tally. tally.next ≡ header.now.next) }
+        → IsTallyOf shape.now (Some bytes) (namings view) visited.tally) }
+    ensures found { IfOk result (λ visited. (bytes : List ℕ) (view : View)
+        → D.bytes device.old ≡ Some bytes
+        → IsViewOf shape.now bytes view
+        → header_of view ≡ Some header.now
+        → visited.found.items ≡ data_namings view) }
+    ensures next { IfOk result (λ visited. visited.tally.next ≡ header.now.next) }
     ensures bytes { D.bytes device.new ≡ D.bytes device.old }
     ensures writes { D.writes device.new ≡ D.writes device.old }
     ensures landings { D.landings device.new ≡ D.landings device.old }
@@ -57,12 +71,12 @@ pub fn walk<D: Device>(
     tally.note_all(alloc, device, shape, &named)?;
     let found = data_namings(alloc, &tally, &named)?;
     tally.note_all(alloc, device, shape, &found)?;
-    Ok(tally)
+    Ok(Visited { tally, found })
 }
 
 /// The data pages that the pointer pages among these namings name, each of them for the role for
 /// which it is walked.
-pub fn data_namings(
+pub(crate) fn data_namings(
     alloc: Global,
     tally: &Tally,
     namings: &[Naming],
@@ -93,7 +107,7 @@ fn push_named(found: &mut Vec<Naming>, tally: &Tally, naming: Naming) -> Result<
 }
 
 /// Whether a page is walked for this role.
-fn is_walked_for(role: Role, walked: Option<Role>) -> bool
+pub(crate) fn is_walked_for(role: Role, walked: Option<Role>) -> bool
     ensures { result ≡ is_walked_for role walked }
 {
     match walked {

@@ -5,3 +5,9 @@ pub mod Outlines
 pub mod Sketches
 pub mod Owners
 pub mod WriteOrder
+pub mod Locks
+pub mod World
+pub mod Holdings
+pub mod Commands
+pub mod Frames
+pub mod Example

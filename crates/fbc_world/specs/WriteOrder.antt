@@ -22,7 +22,7 @@ pairs_of (moment ∷ before) owner high low = pair_step owner high low (pairs_of
 abbrev pub IsPair : History → ℕ → ℕ → Type 0
 IsPair history high low = (owner : ℕ) × (pairs_of history owner high low ≡ true)
 
--- Pairs lead from the first page to the second.
-pub data StandsBefore (history : History) : ℕ → ℕ → Type 0 where
-  straight : (high low : ℕ) → IsPair history high low → StandsBefore history high low
-  through : (high between low : ℕ) → IsPair history high between → StandsBefore history between low → StandsBefore history high low
+-- Pairs of this relation lead from the first page to the second.
+pub data StandsBefore (Pairs : ℕ → ℕ → Type 0) : ℕ → ℕ → Type 0 where
+  straight : (high low : ℕ) → Pairs high low → StandsBefore Pairs high low
+  through : (high between low : ℕ) → Pairs high between → StandsBefore Pairs between low → StandsBefore Pairs high low

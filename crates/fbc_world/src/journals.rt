@@ -3,7 +3,7 @@
 ghost use Rattle.std.specs.Prelude.{◌≡◌, ◌↔◌, IsTrue, ◌^◌, ◌<◌, ◌≤◌, ◌+◌, ◌++◌, ◌∷◌, [], Some, IfOk, OnOk, OnErr, length, slice_get};
 ghost use Rattle.fbc_kinds.specs.Edits.{IsShape};
 ghost use Rattle.fbc_world.specs.History.{recorded};
-ghost use Rattle.fbc_world.specs.PageCell.{blank_file, draft_owner, kept};
+ghost use Rattle.fbc_world.specs.PageCell.{blank_file, draft_owner, kept, newest};
 ghost use Rattle.fbc_world.specs.Owners.{granted, is_alive};
 ghost use Rattle.fbc_world.specs.WriteOrder.{IsPair};
 
@@ -106,6 +106,15 @@ impl Journal {
     {
         let replay = replays::replayed(self.alloc, &self.shape, page, self.events.as_slice())?;
         Ok(replay.into_kept())
+    }
+
+    /// The newest content of the page, replayed in the same way: its draft's where it has one, and
+    /// otherwise what is kept.
+    pub fn newest(&self, page: u32) -> Result<Page, AllocError>
+        ensures { IfOk result (λ content. newest self.now.shape blank_file (recorded self.now) page ≡ Some content) }
+    {
+        let replay = replays::replayed(self.alloc, &self.shape, page, self.events.as_slice())?;
+        Ok(replay.into_newest())
     }
 
     /// The owner of the page's draft, if there is one, replayed in the same way.

@@ -4,11 +4,11 @@
 
 mod answers;
 mod asks;
-mod copies;
 mod drafts;
 mod events;
 mod journals;
 mod laws;
+mod lock_laws;
 mod outlines;
 mod owners;
 mod pairs;
@@ -20,7 +20,11 @@ pub use asks::{Ask, Cause};
 pub use drafts::Draft;
 pub use events::{Act, Event, LocalEvent};
 pub use journals::{Journal, Recorded};
-pub use laws::{copies_end_with_their_locks, drafts_end_with_their_owners, others_leave_copies};
+pub use laws::{
+    commands_of_the_example, copies_end_with_their_locks, drafts_end_with_their_owners,
+    others_leave_ones_own, pages_have_one_draft, worlds_are_replays,
+};
+pub use lock_laws::{requests_are_apart, requests_grant_levels};
 
 #[cfg(test)]
 mod tests;

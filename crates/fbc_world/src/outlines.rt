@@ -2,11 +2,12 @@
 //! memory. Histories over blank pages make no headers, so there is none of a header.
 
 ghost use Rattle.std.specs.Prelude.{◌≡◌};
-ghost use Rattle.fbc_kinds.specs.Edits.{IsShape, covers, is_version, may_be, stands_in, suits, value_length};
-ghost use Rattle.fbc_kinds.specs.Limits.{IsPageSize, cells, slots};
+ghost use Rattle.fbc_kinds.specs.Edits.{IsShape, covers, is_version, may_be, stands_in, value_length};
+ghost use Rattle.fbc_kinds.specs.Limits.{cells, slots};
 ghost use Rattle.fbc_world.specs.Outlines.{does_fit, fits_data, fits_inventory, fits_pointer, fits_tip, outline_after, outline_formatted};
 
-use fbc_kinds::{Cell, Edit, Flag, Shape, State};
+use fbc_kinds::fitting::{cells, covers, is_version, may_be, slots, stands_in, value_length};
+use fbc_kinds::{Edit, Shape};
 
 /// The outline of a page.
 #[derive(Clone, Copy, Debug)]
@@ -83,14 +84,6 @@ fn fits_inventory(shape: &Shape, page: u32, sequence: u32, edit: &Edit) -> bool
     }
 }
 
-/// Whether the page inventory of that sequence covers a page.
-fn covers(size: u32, sequence: u32, number: u32) -> bool
-    requires { IsPageSize size }
-    ensures { result ≡ covers size sequence number }
-{
-    number / ((size - 16) * 8) == sequence
-}
-
 fn fits_tip(shape: &Shape, sequence: u32, edit: &Edit) -> bool
     requires { IsShape shape.now }
     ensures { result ≡ fits_tip shape.now sequence edit.now }
@@ -100,26 +93,6 @@ fn fits_tip(shape: &Shape, sequence: u32, edit: &Edit) -> bool
             stands_in(shape.size, sequence, number) && may_be(number, state)
         }
         _ => false,
-    }
-}
-
-/// Whether a transaction number stands in the transaction inventory page of that sequence.
-fn stands_in(size: u32, sequence: u32, number: u32) -> bool
-    requires { IsPageSize size }
-    ensures { result ≡ stands_in size sequence number }
-{
-    number / (4 * (size - 16)) == sequence
-}
-
-/// Whether a transaction number may have a state.
-fn may_be(number: u32, state: State) -> bool
-    ensures { result ≡ may_be number state }
-{
-    match state {
-        State::Active => true,
-        State::Limbo => false,
-        State::Dead => number != 0,
-        State::Committed => number != 0,
     }
 }
 
@@ -134,14 +107,6 @@ fn fits_pointer(shape: &Shape, edit: &Edit) -> bool
     }
 }
 
-/// How many slots a pointer page has.
-fn slots(size: u32) -> u32
-    requires { IsPageSize size }
-    ensures { result ≡ slots size }
-{
-    (size - 16) / 4
-}
-
 fn fits_data(shape: &Shape, relation: u8, edit: &Edit) -> bool
     requires { IsShape shape.now }
     ensures { result ≡ fits_data shape.now relation edit.now }
@@ -153,46 +118,5 @@ fn fits_data(shape: &Shape, relation: u8, edit: &Edit) -> bool
         }
         Edit::ClearCell { cell } => (cell as u32) < cells(shape.size, greatest),
         _ => false,
-    }
-}
-
-/// The greatest length of a value of a relation; 0 where the shape does not have the relation.
-fn value_length(shape: &Shape, relation: u8) -> u8
-    requires { IsShape shape.now }
-    ensures { result ≡ value_length shape.now relation }
-{
-    if relation < shape.count {
-        shape.lengths[relation as usize]
-    } else {
-        0
-    }
-}
-
-/// How many cells a data page has, for values of at most that many bytes.
-fn cells(size: u32, greatest: u8) -> u32
-    requires { IsPageSize size }
-    ensures { result ≡ cells size greatest }
-{
-    (size - 16) / (12 + greatest as u32)
-}
-
-/// Whether the cell holds a version and is within its limits.
-fn is_version(greatest: u8, content: &Cell) -> bool
-    ensures { result ≡ is_version greatest content.now }
-{
-    suits(content.flag, greatest, content.value.as_bytes().len())
-        && content.number != 0
-        && (content.back_page != 0 || content.back_cell == 0)
-}
-
-/// Whether a value of that many bytes suits a version with this flag.
-fn suits(flag: Flag, greatest: u8, size: usize) -> bool
-    ensures { result ≡ suits flag greatest size }
-{
-    match flag {
-        Flag::Empty => false,
-        Flag::Primary => 1 <= size && size <= greatest as usize,
-        Flag::Deletion => size == 0,
-        Flag::Back => 1 <= size && size <= greatest as usize,
     }
 }

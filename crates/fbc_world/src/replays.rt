@@ -3,10 +3,9 @@
 ghost use Rattle.std.specs.Prelude.{◌≡◌, false, IfOk, None, OnOk, Some, reverse};
 ghost use Rattle.fbc_kinds.specs.Edits.{IsShape, IsWithinLimits};
 ghost use Rattle.fbc_world.specs.History.{none_landed};
-ghost use Rattle.fbc_world.specs.PageCell.{blank_file, draft, draft_step, drafted, edited, kept, kept_step, page_for, without};
+ghost use Rattle.fbc_world.specs.PageCell.{blank_file, draft, draft_step, drafted, edited, kept, kept_step, newest_in, page_for, without};
 ghost use Rattle.fbc_world.specs.Replay.{IsWithin};
 
-use crate::copies;
 use crate::drafts::Draft;
 use crate::events::{Act, Event, LocalEvent};
 use fbc_kinds::{ApplyFault, Edit, Page, Shape, apply};
@@ -47,6 +46,17 @@ impl Replay {
     {
         let Replay { kept, draft: _ } = self;
         kept
+    }
+
+    /// The newest content.
+    pub(crate) fn into_newest(self) -> Page
+        ensures { newest_in (Some self.kept) self.draft ≡ Some result }
+    {
+        let Replay { kept, draft } = self;
+        match draft {
+            Some(Draft { owner: _, content }) => content,
+            None => kept,
+        }
     }
 
     /// What the event does to the page.
@@ -100,7 +110,7 @@ impl Replay {
         ensures kept { self.new.kept ≡ self.old.kept }
         ensures draft { OnOk result (self.new.draft ≡ drafted owner self.old.draft (edited shape.now edit.now (page_for owner (Some self.old.kept) self.old.draft))) }
     {
-        let mut content = copies::copied(alloc, self.page_for(shape, owner))?;
+        let mut content = self.page_for(shape, owner).copied(alloc)?;
         match apply(alloc, shape, edit, &mut content) {
             Ok(()) => {
                 self.draft = Some(Draft { owner, content });

@@ -87,7 +87,9 @@ fn a_death_drops_the_draft(rt: HostRuntime) -> Result<(), Fail> {
     check(&rt, &journal, false, Some(1), true)?;
     tell(&mut journal, 2, Act::Die)?;
     check(&rt, &journal, false, Some(1), true)?;
+    assert!(rt; matches!(&journal.newest(4)?, Page::Data(_)));
     tell(&mut journal, 1, Act::Die)?;
+    assert!(rt; matches!(&journal.newest(4)?, Page::Blank));
     check(&rt, &journal, false, None, false)?;
     assert_eq!(rt; journal.length(), 6);
     Ok(())

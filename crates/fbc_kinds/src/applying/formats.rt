@@ -4,8 +4,9 @@ ghost use Rattle.std.specs.Prelude.{◌≡◌, IfOk, IsSome, OnErr, Some};
 ghost use Rattle.fbc_kinds.specs.Edits.{IsShape, data_formatted, formatted, inventory_formatted, own_marks, pointer_formatted, tip_formatted};
 ghost use Rattle.fbc_kinds.specs.Limits.{IsPageSize, inventory_bits, slots, tip_numbers};
 
-use super::inventories::{covers, page_place};
-use super::records::{empty_cell, value_length};
+use super::inventories::page_place;
+use super::records::empty_cell;
+use crate::fitting::{cells, covers, slots, value_length};
 use crate::listed::Listed;
 use crate::pages::{Data, Inventory, Page, Pointer, State, Tip};
 use crate::shapes::Shape;
@@ -79,7 +80,7 @@ fn format_pointer(
     if relation >= shape.count {
         return Ok(None);
     }
-    let slots = Listed::new(vec![in alloc; 0; (shape.size as usize - 16) / 4]?);
+    let slots = Listed::new(vec![in alloc; 0; slots(shape.size) as usize]?);
     Ok(Some(Page::Pointer(Pointer {
         page,
         relation,
@@ -103,8 +104,8 @@ fn format_data(
     if relation >= shape.count {
         return Ok(None);
     }
-    let width = 12 + value_length(shape, relation) as usize;
-    let cells = Listed::new(vec![in alloc; empty_cell(); (shape.size as usize - 16) / width]?);
+    let count = cells(shape.size, value_length(shape, relation)) as usize;
+    let cells = Listed::new(vec![in alloc; empty_cell(); count]?);
     Ok(Some(Page::Data(Data {
         page,
         relation,

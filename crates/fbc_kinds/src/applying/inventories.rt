@@ -4,16 +4,9 @@ ghost use Rattle.std.specs.Prelude.{◌≡◌, ◌<◌, ◌%◌, length};
 ghost use Rattle.fbc_kinds.specs.Limits.{IsPageSize, inventory_bits, tip_numbers};
 ghost use Rattle.fbc_kinds.specs.Edits.{IsShape, IsWithinLimits, Tried, covers, may_be, page_freed, page_taken, stands_in, state_marked, with_mark, with_state};
 
+use crate::fitting::{covers, may_be, stands_in};
 use crate::pages::{Inventory, Page, State, Tip};
 use crate::shapes::Shape;
-
-/// Whether the page inventory of that sequence covers a page.
-pub(super) fn covers(size: u32, sequence: u32, number: u32) -> bool
-    requires { IsPageSize size }
-    ensures { result ≡ covers size sequence number }
-{
-    number / ((size - 16) * 8) == sequence
-}
 
 /// The place of a page in the page inventory that covers it.
 pub(super) fn page_place(size: u32, number: u32) -> usize
@@ -68,14 +61,6 @@ pub(super) fn free_page(shape: &Shape, number: u32, page: &mut Page) -> bool
     true
 }
 
-/// Whether a transaction number stands in the transaction inventory page of that sequence.
-fn stands_in(size: u32, sequence: u32, number: u32) -> bool
-    requires { IsPageSize size }
-    ensures { result ≡ stands_in size sequence number }
-{
-    number / (4 * (size - 16)) == sequence
-}
-
 /// The place of a transaction number in the transaction inventory page where it stands.
 fn number_place(size: u32, number: u32) -> usize
     requires { IsPageSize size }
@@ -92,18 +77,6 @@ fn set_state(size: u32, number: u32, state: State, tip: &mut Tip)
     ensures { tip.new ≡ with_state size number state tip.old }
 {
     tip.states.set(number_place(size, number), state);
-}
-
-/// Whether a transaction number may have a state.
-fn may_be(number: u32, state: State) -> bool
-    ensures { result ≡ may_be number state }
-{
-    match state {
-        State::Active => true,
-        State::Limbo => false,
-        State::Dead => number != 0,
-        State::Committed => number != 0,
-    }
 }
 
 /// Shows a transaction number in a state.

@@ -2,8 +2,9 @@
 
 ghost use Rattle.std.specs.Prelude.{◌≡◌, ◌<◌, length};
 ghost use Rattle.fbc_kinds.specs.DataSpelling.{empty_cell};
-ghost use Rattle.fbc_kinds.specs.Edits.{HasCellNumbers, IsShape, Tried, cell_cleared, cell_put, is_version, slot_named, suits, value_length};
+ghost use Rattle.fbc_kinds.specs.Edits.{HasCellNumbers, IsShape, Tried, cell_cleared, cell_put, is_version, slot_named, value_length};
 
+use crate::fitting::{is_version, value_length};
 use crate::padded::Value;
 use crate::pages::{Cell, Flag, Page};
 use crate::shapes::Shape;
@@ -20,39 +21,6 @@ pub(super) fn name(slot: u32, number: u32, page: &mut Page) -> bool
     }
     pointer.slots.set(slot as usize, number);
     true
-}
-
-/// The greatest length of a value of a relation; 0 where the shape does not have the relation.
-pub(super) fn value_length(shape: &Shape, relation: u8) -> u8
-    requires { IsShape shape.now }
-    ensures { result ≡ value_length shape.now relation }
-{
-    if relation < shape.count {
-        shape.lengths[relation as usize]
-    } else {
-        0
-    }
-}
-
-/// Whether a value of that many bytes suits a version with this flag.
-fn suits(flag: Flag, greatest: u8, size: usize) -> bool
-    ensures { result ≡ suits flag greatest size }
-{
-    match flag {
-        Flag::Empty => false,
-        Flag::Primary => 1 <= size && size <= greatest as usize,
-        Flag::Deletion => size == 0,
-        Flag::Back => 1 <= size && size <= greatest as usize,
-    }
-}
-
-/// Whether the cell holds a version and is within its limits.
-fn is_version(greatest: u8, content: &Cell) -> bool
-    ensures { result ≡ is_version greatest content.now }
-{
-    suits(content.flag, greatest, content.value.as_bytes().len())
-        && content.number != 0
-        && (content.back_page != 0 || content.back_cell == 0)
 }
 
 /// Puts a version into a cell.

@@ -4,7 +4,8 @@ ghost use Rattle.std.specs.Prelude.{◌≡◌, ◌≤◌, IfOk, length};
 ghost use Rattle.fbc_kinds.specs.Edits.{IsShape, IsWithinLimits};
 
 use crate::{
-    ApplyFault, Cell, Edit, Flag, Header, Listed, Name, Page, Relation, Shape, State, Value, apply,
+    ApplyFault, Cell, Edit, Flag, Header, Inventory, Listed, Name, Page, Relation, Shape, State,
+    Value, apply,
 };
 use std::alloc::{AllocError, Global};
 use std::process::Abort;
@@ -24,7 +25,8 @@ fn shape() -> Shape
     }
 }
 
-/// Makes each edit in turn, and asserts which ones fit.
+/// Makes each edit in turn, and asserts which ones fit, and that the others leave the page as it
+/// was.
 fn check(
     rt: &impl Abort,
     alloc: Global,
@@ -37,9 +39,13 @@ fn check(
     ensures { IsWithinLimits shape.now page.new }
 {
     for (edit, fits) in cases {
+        let before = format!(in alloc; "{page:?}")?;
         match apply(alloc, shape, edit, page) {
             Ok(()) => assert!(rt; *fits, "{edit:?}"),
-            Err(ApplyFault::Unfit) => assert!(rt; !*fits, "{edit:?}"),
+            Err(ApplyFault::Unfit) => {
+                assert!(rt; !*fits, "{edit:?}");
+                assert_eq!(rt; format!(in alloc; "{page:?}")?, before, "{edit:?}");
+            }
             Err(ApplyFault::Memory) => return Err(ApplyFault::Memory),
         }
     }
@@ -65,6 +71,15 @@ fn transaction_inventories(rt: HostRuntime) -> Result<(), ApplyFault> {
             ),
             (
                 Edit::Format {
+                    kind: 3,
+                    page: 2,
+                    relation: 0,
+                    sequence: 1,
+                },
+                true,
+            ),
+            (
+                Edit::Format {
                     kind: 1,
                     page: 2,
                     relation: 0,
@@ -80,15 +95,6 @@ fn transaction_inventories(rt: HostRuntime) -> Result<(), ApplyFault> {
                     sequence: 0,
                 },
                 false,
-            ),
-            (
-                Edit::Format {
-                    kind: 3,
-                    page: 2,
-                    relation: 0,
-                    sequence: 1,
-                },
-                true,
             ),
             (
                 Edit::Mark {
@@ -125,11 +131,13 @@ fn transaction_inventories(rt: HostRuntime) -> Result<(), ApplyFault> {
                 },
                 false,
             ),
+            (Edit::TakePage { page: 8065 }, false),
+            (Edit::FreePage { page: 8065 }, false),
             (
                 Edit::Format {
                     kind: 3,
                     page: 2,
-                    relation: 0,
+                    relation: 1,
                     sequence: 0,
                 },
                 true,
@@ -193,20 +201,20 @@ fn page_inventories(rt: HostRuntime) -> Result<(), ApplyFault> {
             (
                 Edit::Format {
                     kind: 2,
-                    page: 1,
-                    relation: 0,
-                    sequence: 0,
-                },
-                false,
-            ),
-            (
-                Edit::Format {
-                    kind: 2,
                     page: 8064,
                     relation: 0,
                     sequence: 1,
                 },
                 true,
+            ),
+            (
+                Edit::Format {
+                    kind: 2,
+                    page: 1,
+                    relation: 0,
+                    sequence: 0,
+                },
+                false,
             ),
             (Edit::TakePage { page: 8063 }, false),
             (Edit::TakePage { page: 8065 }, true),
@@ -218,6 +226,14 @@ fn page_inventories(rt: HostRuntime) -> Result<(), ApplyFault> {
             (Edit::FreePage { page: 8064 }, false),
             (Edit::FreePage { page: 8065 }, true),
             (Edit::FreePage { page: 8067 }, true),
+            (
+                Edit::Mark {
+                    number: 4032,
+                    state: State::Dead,
+                },
+                false,
+            ),
+            (Edit::Name { slot: 0, page: 4 }, false),
         ],
     )?;
     let Page::Inventory(inventory) = &page else {
@@ -246,6 +262,15 @@ fn pointer_pages(rt: HostRuntime) -> Result<(), ApplyFault> {
             (Edit::Name { slot: 0, page: 4 }, false),
             (
                 Edit::Format {
+                    kind: 5,
+                    page: 3,
+                    relation: 0,
+                    sequence: 0,
+                },
+                true,
+            ),
+            (
+                Edit::Format {
                     kind: 4,
                     page: 3,
                     relation: 1,
@@ -268,6 +293,18 @@ fn pointer_pages(rt: HostRuntime) -> Result<(), ApplyFault> {
             (Edit::Name { slot: 252, page: 9 }, false),
             (Edit::Unname { slot: 1 }, true),
             (Edit::Unname { slot: 252 }, false),
+            (Edit::Name { slot: 2, page: 7 }, true),
+            (Edit::Name { slot: 2, page: 0 }, true),
+            (Edit::ClearCell { cell: 0 }, false),
+            (
+                Edit::PutCell {
+                    cell: 0,
+                    content: version(Flag::Primary, 1, b"x", 0, 0),
+                },
+                false,
+            ),
+            (Edit::AddInventory, false),
+            (MORE, false),
         ],
     )?;
     let Page::Pointer(pointer) = &page else {
@@ -277,6 +314,79 @@ fn pointer_pages(rt: HostRuntime) -> Result<(), ApplyFault> {
     for (k, named) in [(0, 4), (1, 0), (2, 0), (251, 9)] {
         assert_eq!(rt; pointer.slots.items().get(k).copied(), Some(named), "{k}");
     }
+    Ok(())
+}
+
+/// The first page inventory of a file, which shows every page as taken.
+fn first_inventory(alloc: Global, shape: &Shape) -> Result<Page, AllocError>
+    requires { IsShape shape.now }
+    ensures { IfOk result (IsWithinLimits shape.now) }
+{
+    let count = (shape.size as usize - 16) * 8;
+    Ok(Page::Inventory(Inventory {
+        page: 1,
+        sequence: 0,
+        taken: Listed::new(vec![in alloc; true; count]?),
+    }))
+}
+
+#[test]
+fn first_page_inventory(rt: HostRuntime) -> Result<(), ApplyFault> {
+    let shape = shape();
+    let mut page = first_inventory(rt.alloc(), &shape)?;
+    check(
+        &rt,
+        rt.alloc(),
+        &shape,
+        &mut page,
+        &[
+            (Edit::FreePage { page: 0 }, false),
+            (Edit::FreePage { page: 1 }, false),
+            (Edit::FreePage { page: 2 }, true),
+            (Edit::FreePage { page: 8063 }, true),
+            (Edit::FreePage { page: 8064 }, false),
+            (Edit::TakePage { page: 0 }, true),
+            (Edit::TakePage { page: 8063 }, true),
+            (Edit::TakePage { page: 8064 }, false),
+        ],
+    )?;
+    let Page::Inventory(inventory) = &page else {
+        rt.abort();
+    };
+    for (k, taken) in [(0, true), (1, true), (2, false), (3, true), (8063, true)] {
+        assert_eq!(rt; inventory.taken.items().get(k).copied(), Some(taken), "{k}");
+    }
+    Ok(())
+}
+
+#[test]
+fn page_inventory_at_another_page(rt: HostRuntime) -> Result<(), ApplyFault> {
+    let shape = shape();
+    let mut page = Page::Blank;
+    check(
+        &rt,
+        rt.alloc(),
+        &shape,
+        &mut page,
+        &[
+            (
+                Edit::Format {
+                    kind: 2,
+                    page: 5,
+                    relation: 0,
+                    sequence: 1,
+                },
+                true,
+            ),
+            (Edit::TakePage { page: 5 }, false),
+            (Edit::FreePage { page: 5 }, false),
+            (Edit::FreePage { page: 8064 }, true),
+        ],
+    )?;
+    let Page::Inventory(inventory) = &page else {
+        rt.abort();
+    };
+    assert!(rt; inventory.taken.items().iter().all(|taken| !*taken));
     Ok(())
 }
 
@@ -314,19 +424,19 @@ fn data_pages(rt: HostRuntime) -> Result<(), ApplyFault> {
                 Edit::Format {
                     kind: 5,
                     page: 4,
-                    relation: 1,
+                    relation: 0,
                     sequence: 0,
                 },
-                false,
+                true,
             ),
             (
                 Edit::Format {
                     kind: 5,
                     page: 4,
-                    relation: 0,
+                    relation: 1,
                     sequence: 0,
                 },
-                true,
+                false,
             ),
             (
                 Edit::PutCell {
@@ -366,7 +476,21 @@ fn data_pages(rt: HostRuntime) -> Result<(), ApplyFault> {
             (
                 Edit::PutCell {
                     cell: 2,
+                    content: version(Flag::Primary, 1, b"0123456789a", 0, 0),
+                },
+                false,
+            ),
+            (
+                Edit::PutCell {
+                    cell: 2,
                     content: version(Flag::Primary, 1, b"", 0, 0),
+                },
+                false,
+            ),
+            (
+                Edit::PutCell {
+                    cell: 2,
+                    content: version(Flag::Back, 1, b"", 0, 0),
                 },
                 false,
             ),
@@ -381,6 +505,13 @@ fn data_pages(rt: HostRuntime) -> Result<(), ApplyFault> {
                 Edit::PutCell {
                     cell: 2,
                     content: version(Flag::Empty, 1, b"", 0, 0),
+                },
+                false,
+            ),
+            (
+                Edit::PutCell {
+                    cell: 0,
+                    content: version(Flag::Empty, 0, b"", 0, 0),
                 },
                 false,
             ),
@@ -407,6 +538,10 @@ fn data_pages(rt: HostRuntime) -> Result<(), ApplyFault> {
             ),
             (Edit::ClearCell { cell: 1 }, true),
             (Edit::ClearCell { cell: 45 }, false),
+            (Edit::Name { slot: 0, page: 4 }, false),
+            (Edit::Unname { slot: 0 }, false),
+            (Edit::SetNext { next: 1 }, false),
+            (POINTER, false),
         ],
     )?;
     let Page::Data(data) = &page else {
@@ -473,6 +608,15 @@ fn headers(rt: HostRuntime) -> Result<(), ApplyFault> {
         &mut page,
         &[
             (Edit::Unname { slot: 0 }, false),
+            (Edit::TakePage { page: 3 }, false),
+            (Edit::FreePage { page: 3 }, false),
+            (
+                Edit::Mark {
+                    number: 1,
+                    state: State::Dead,
+                },
+                false,
+            ),
             (Edit::SetNext { next: 0 }, false),
             (Edit::SetNext { next: 4032 }, true),
             (Edit::SetNext { next: 4033 }, false),

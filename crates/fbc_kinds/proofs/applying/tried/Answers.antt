@@ -1,6 +1,6 @@
-use Rattle.std.proofs.Common.{◌<◌, arith}
+use Rattle.std.proofs.Common.{arith}
 use Rattle.fbc_kinds.specs.declared.edits.Edit.TheVariants.{SetNext, AddTip, AddPointer, AddInventory, TakePage, FreePage, Mark, PutCell, Format}
-use Rattle.fbc_kinds.specs.Edits.{IsEdit, IsShape, IsWithinLimits, Tried, applied}
+use Rattle.fbc_kinds.specs.Edits.{Tried, applied}
 use Rattle.fbc_kinds.proofs.EditsKept.{kept_result, kept_tried}
 use Rattle.fbc_kinds.proofs.applying.tried.Goals as goal
 

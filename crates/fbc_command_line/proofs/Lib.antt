@@ -1,0 +1,5 @@
+mod CommandLines
+mod EachOption
+mod Equals
+mod OneSpelling
+mod OptionLemmas

@@ -1,0 +1,4 @@
+pub mod Commands
+pub mod NewFile
+pub mod OptionReading
+pub mod Options

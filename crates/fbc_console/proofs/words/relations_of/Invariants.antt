@@ -1,8 +1,0 @@
-use Rattle.std.proofs.Common.{◌≡◌, ◌++◌, drop}
-use Rattle.std.specs.Option.{option_map}
-use Rattle.fbc_console.specs.Words.{relations_of}
-use Rattle.fbc_console.proofs.words.relations_of.Given as goal
-
--- the relations so far and those that are left
-abbrev pub invariant-loop-word : goal.invariant-loop-word
-invariant-loop-word l = option_map (λ later. l.relations ++ later) (relations_of (drop l.word-index l.words)) ≡ relations_of l.words

@@ -1,0 +1,73 @@
+//! Checks a file, and tells what it finds.
+
+ghost use Rattle.std.specs.Prelude.{◌≡◌, ◌≤◌, ◌^◌, List, ℕ, IfOk};
+ghost use Rattle.fbc_outside.specs.Faults.{Rose};
+ghost use Rattle.fbc_console.specs.Checking.{IsCheckDone, IsReported, report};
+ghost use Rattle.fbc_console.specs.Closing.{Took};
+
+use crate::statuses::Status;
+use fbc_outside::{Device, Sink, write_all};
+use fbc_report::{json as json_report, text as text_report};
+use fbc_validator::{Findings, ValidateFault, validate};
+use std::alloc::{AllocError, Global};
+
+/// Checks the file on the device, and tells its report: as JSON, or as text. Nothing is written to the
+/// device.
+///
+/// Errors: `Damaged` where a page is damaged, with its report told; `NotOurs` where the file is
+/// refused, `DeviceFault`, `SinkFault`, `OutOfMemory`.
+pub fn check<D: Device, K: Sink>(
+    alloc: Global,
+    json: bool,
+    device: &mut D,
+    out: &mut K,
+) -> Result<(), Status>
+    requires reach { D.reach device.old ≤ 2 ^ 40 }
+    ensures done { (told : List ℕ) × IsCheckDone json (D.reach device.old) (D.bytes device.old) (D.bytes device.new) result told × Took result (K.may_have out.old) (K.may_have out.new) told }
+    ensures device_fault { result ≡ Err Status.DeviceFault → Rose (D.faults device.old) (D.faults device.new) }
+    ensures device_later { D.faults device.old ≤ D.faults device.new }
+    ensures writes { D.writes device.new ≡ D.writes device.old }
+    ensures reach { D.reach device.new ≡ D.reach device.old }
+    ensures sink_fault { result ≡ Err Status.SinkFault → Rose (K.faults out.old) (K.faults out.new) }
+    ensures sink_later { K.faults out.old ≤ K.faults out.new }
+    ensures no_source { result ≡ Err Status.SourceFault → ⊥ }
+{
+    match validate(alloc, device) {
+        Ok(found) => tell(alloc, json, &found, out),
+        Err(ValidateFault::NotOurs(rule)) => Err(Status::NotOurs { rule }),
+        Err(ValidateFault::DeviceFault) => Err(Status::DeviceFault),
+        Err(ValidateFault::Memory) => Err(Status::OutOfMemory),
+    }
+}
+
+/// Tells the report of what was found.
+///
+/// Errors: `Damaged` where a page is damaged, `SinkFault`, `OutOfMemory`.
+fn tell<K: Sink>(alloc: Global, json: bool, found: &Findings, out: &mut K) -> Result<(), Status>
+    ensures told { IsReported result json found.now (K.may_have out.old) (K.may_have out.new) }
+    ensures sink_fault { result ≡ Err Status.SinkFault → Rose (K.faults out.old) (K.faults out.new) }
+    ensures sink_later { K.faults out.old ≤ K.faults out.new }
+{
+    let Ok(report) = report_of(alloc, json, found) else {
+        return Err(Status::OutOfMemory);
+    };
+    if write_all(out, report.as_slice()).is_err() {
+        return Err(Status::SinkFault);
+    }
+    if found.damages.len() == 0 {
+        Ok(())
+    } else {
+        Err(Status::Damaged)
+    }
+}
+
+/// The report of what was found.
+fn report_of(alloc: Global, json: bool, found: &Findings) -> Result<Vec<u8>, AllocError>
+    ensures { IfOk result (λ text. text.items ≡ report json found.now) }
+{
+    if json {
+        json_report(alloc, found)
+    } else {
+        text_report(alloc, found)
+    }
+}
