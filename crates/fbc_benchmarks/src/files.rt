@@ -3,11 +3,10 @@
 //! Every cell of a data page is used. Of each four data pages the last holds the older versions of
 //! the records of the third, and the others have records with one version each.
 
-ghost use Rattle.std.specs.Prelude.{◌≡◌, ◌≤◌, ◌<◌, ◌%◌, length, IfOk};
+ghost use Rattle.std.specs.Prelude.{◌≡◌, ◌≤◌, ◌<◌, length, IfOk};
 ghost use Rattle.fbc_kinds.specs.HeaderSpelling.{IsShape};
 ghost use Rattle.fbc_kinds.specs.Edits.{IsWithinLimits, value_length};
-ghost use Rattle.fbc_kinds.specs.InventorySpelling.{IsInventory};
-ghost use Rattle.fbc_kinds.specs.Limits.{IsPageSize, inventory_bits};
+ghost use Rattle.fbc_kinds.specs.Limits.{IsPageSize};
 ghost use Rattle.fbc_benchmarks.specs.Plans.{AreTakenFirst, IsPlan};
 
 use crate::plans::{FIRST_DATA, FIRST_POINTER, INVENTORY, Plan, TIP, TRANSACTIONS, covered, slots};

@@ -1,0 +1,16 @@
+pub mod Lives
+pub mod Stamps
+pub mod Scene
+pub mod Traces
+pub mod Marks
+pub mod Facts
+pub mod Leans
+pub mod Naming
+pub mod Rows
+pub mod Ranks
+pub mod Causes
+pub mod Guards
+pub mod Legal
+pub mod Coherent
+pub mod Circles
+pub mod Example

@@ -1,0 +1,9 @@
+mod Counting
+mod Pairs
+mod Paths
+mod Standing
+mod Linked
+mod Searching
+mod Least
+mod Keeping
+mod Choosing

@@ -1,0 +1,4 @@
+pub mod Pages
+pub mod Precedence
+pub mod Room
+pub mod Search
