@@ -16,7 +16,7 @@ const SCRIPT: &str = "a1 attach\na1 begin wait\na1 insert t x\na1 read t 0\na1 c
 const LINES: &str = "1 a1 ok\n2 a1 transaction 1\n3 a1 row 0\n4 a1 value x\n5 a1 ok\n";
 
 /// Bytes that stand in a file from a place on; all others are zeros.
-type Spot = (usize, &'static [u8]);
+pub(crate) type Spot = (usize, &'static [u8]);
 
 /// The fresh file of one relation `t` with values of at most 10 bytes.
 const FRESH: [Spot; 13] = [
@@ -56,7 +56,7 @@ const EMPTY: [Spot; 2] = [(32, &[0x02]), (2064, &[0x0c])];
 /// What stands in a file of values of at most 200 bytes after five inserts, and after an update whose
 /// owner died before it wrote the page of the new version: the value that it moved is lost. Each value
 /// is `r` and a digit, of transaction 1.
-const MOVED: [Spot; 13] = [
+pub(crate) const MOVED: [Spot; 13] = [
     (32, &[0x03]),
     (64, &[0xc8]),
     (1040, &[0x3f]),
@@ -76,7 +76,7 @@ const MOVED: [Spot; 13] = [
 ];
 
 /// A file: so many bytes, with the spots of the fresh file and these over them.
-type Content = (usize, &'static [Spot]);
+pub(crate) type Content = (usize, &'static [Spot]);
 
 /// Zeros over all that stands in the fresh file.
 const ZEROS: [Spot; 4] = [
@@ -101,7 +101,7 @@ struct Seen {
 }
 
 /// The bytes of a file.
-fn bytes_of(alloc: Global, content: Content) -> Result<Vec<u8>, AllocError>
+pub(crate) fn bytes_of(alloc: Global, content: Content) -> Result<Vec<u8>, AllocError>
     ensures { IfOk result (λ bytes. length bytes.items ≡ content.entry.0) }
 {
     let (size, spots) = content;
