@@ -54,7 +54,7 @@ plain at h t owner landed act may g is = record {
 }
 
 -- after any act: a failed write is a death, behind a write if it landed
-IsCoherent-acted : (at : Scene) → IsCoherent at.world → AreRequestsTrue at.world → (owner : ℕ) (landed : Bool) (act : Act) → MayAct at owner act → Guard at owner act
+pub IsCoherent-acted : (at : Scene) → IsCoherent at.world → AreRequestsTrue at.world → (owner : ℕ) (landed : Bool) (act : Act) → MayAct at owner act → Guard at owner act
     → IsCoherent (acted at.shape at.world owner act landed)
 IsCoherent-acted at h t owner true (Write page reason true) may g =
     let after = plain at h t owner true (Write page reason false) may g refl in

@@ -11,7 +11,6 @@ pub mod Induction
 pub mod Told
 pub mod Sparing
 pub mod Frame
-pub mod ExampleLaws
 pub mod RankOrder
 pub mod HeaderRanks
 pub mod EditRanks

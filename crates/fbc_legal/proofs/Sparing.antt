@@ -1,8 +1,6 @@
 -- A legal act of one owner spares the living others.
-use Rattle.std.proofs.Common.{◌≡◌, ◌≢◌, ◌==◌, ◌&&◌, ℕ, Bool, true, false, Option, Some, None, refl, subst, sym, arith}
+use Rattle.std.proofs.Common.{◌≡◌, ◌≢◌, ◌==◌, ◌&&◌, ℕ, Bool, true, false, Option, Some, None, refl, subst, arith}
 use Rattle.std.proofs.lemmas.Bool.Decides.{nat_tests}
-use Rattle.fbc_kinds.specs.declared.shapes.Shape.{Shape}
-use Rattle.fbc_kinds.specs.View.{View}
 use Rattle.fbc_levels.specs.declared.levels.Level.TheVariants.{Ex}
 use Rattle.fbc_world.specs.declared.drafts.Draft.{Draft}
 use Rattle.fbc_world.specs.declared.events.Act.{Act}
@@ -14,7 +12,7 @@ use Rattle.fbc_world.specs.World.{World}
 use Rattle.fbc_legal.specs.Coherent.{IsCoherent, IsDraftHeld, is_usable}
 use Rattle.fbc_legal.specs.Guards.{Guard}
 use Rattle.fbc_legal.specs.Scene.{Scene}
-use Rattle.fbc_legal.proofs.Exclusion.{both_of, excluded, same_number}
+use Rattle.fbc_legal.proofs.Exclusion.{excluded, same_number}
 
 -- who has the draft of a page has the page in EX
 drafter_holds : (w : World) (page other : ℕ) (found : Option Draft) → is_draft_of other found ≡ true → IsDraftHeld w page found → w.granted other (page_resource page) ≡ Ex

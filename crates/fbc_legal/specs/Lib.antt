@@ -13,4 +13,3 @@ pub mod Guards
 pub mod Legal
 pub mod Coherent
 pub mod Circles
-pub mod Example

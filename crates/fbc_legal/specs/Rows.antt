@@ -14,8 +14,9 @@ use Rattle.fbc_kinds.specs.Machine.{is_held}
 use Rattle.fbc_kinds.specs.Reach.{ReachesCell}
 use Rattle.fbc_kinds.specs.View.{cell_at, inventory_of, is_back, is_committed_state, is_empty, is_top, mark_in, next_of, slot_in}
 use Rattle.fbc_levels.specs.declared.levels.Level.TheVariants.{Sr}
+use Rattle.fbc_views.specs.Facing.{IsLinked}
 use Rattle.fbc_legal.specs.Scene.{Scene, HasDraft, HasExclusive, born_at, meant_at, newest_at, number_resource}
-use Rattle.fbc_legal.specs.Traces.{IsLinked, IsMovedBy, IsTakenBy, IsUnnamedBy}
+use Rattle.fbc_legal.specs.Traces.{IsMovedBy, IsTakenBy, IsUnnamedBy}
 
 -- The owner's open transaction.
 abbrev pub HasOpen : Scene → ℕ → Transaction → Type 0

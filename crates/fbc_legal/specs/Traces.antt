@@ -6,8 +6,8 @@ use Rattle.fbc_kinds.specs.declared.edits.Edit.TheVariants.{FreePage, PutCell, T
 use Rattle.fbc_kinds.specs.declared.pages.Cell.{Cell}
 use Rattle.fbc_kinds.specs.declared.shapes.Shape.{Shape}
 use Rattle.fbc_kinds.specs.Limits.{inventory_bits}
-use Rattle.fbc_kinds.specs.Reach.{LinksTo}
 use Rattle.fbc_kinds.specs.View.{View, data_of, inventory_page, is_back, pointer_of, tip_of}
+use Rattle.fbc_views.specs.Facing.{IsLinked}
 use Rattle.fbc_world.specs.declared.events.Act.TheVariants.{Local}
 use Rattle.fbc_world.specs.declared.events.LocalEvent.TheVariants as local
 use Rattle.fbc_world.specs.History.{History, Moment}
@@ -20,14 +20,6 @@ pub data IsNamed (view : View) (page : ℕ) : Type 0 where
   tip : (sequence : ℕ) → tip_of view sequence ≡ Some page → IsNamed view page
   pointer : (relation sequence : ℕ) → pointer_of view relation sequence ≡ Some page → IsNamed view page
   data_page : (relation sequence : ℕ) → data_of view relation sequence ≡ Some page → IsNamed view page
-
--- A version that is reached names the cell as its back version's.
-pub record IsLinked (view : View) (page cell : ℕ) : Type 0 where
-  pub relation : ℕ
-  pub from_page : ℕ
-  pub from_cell : ℕ
-  pub version : Cell
-  pub links : LinksTo view relation from_page from_cell version page cell
 
 -- The moment is this edit of the page by the owner.
 pub record IsEditOf (owner page : ℕ) (edit : Edit) (moment : Moment) : Type 0 where

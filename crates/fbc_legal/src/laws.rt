@@ -1,13 +1,18 @@
 //! Laws of legal histories. They do nothing when they are run.
 
-ghost use Rattle.std.specs.Prelude.{◌≡◌, [], ◌∷◌, Some, true};
-ghost use Rattle.fbc_kinds.specs.View.{View};
-ghost use Rattle.fbc_kinds.specs.declared.pages.Page.TheVariants as page;
+ghost use Rattle.std.specs.Prelude.{◌≡◌, ◌∷◌, ℕ, Bool, Some};
+ghost use Rattle.fbc_kinds.specs.View.{View, pointer_of};
+ghost use Rattle.fbc_kinds.specs.declared.edits.Edit.TheVariants.{FreePage};
 ghost use Rattle.fbc_kinds.specs.declared.shapes.Shape.{Shape};
-ghost use Rattle.fbc_legal.specs.Example.{example_file, example_shape, with_reader};
+ghost use Rattle.fbc_legal.specs.Facts.{Names};
 ghost use Rattle.fbc_legal.specs.Legal.{IsLegal};
-ghost use Rattle.fbc_world.specs.History.{History, Moment};
-ghost use Rattle.fbc_world.specs.PageCell.{copy_of};
+ghost use Rattle.fbc_world.specs.History.{History, Moment, happens};
+ghost use Rattle.fbc_world.specs.PageCell.{draft, newest};
+ghost use Rattle.fbc_world.specs.WriteOrder.{IsPair, StandsBefore};
+ghost use Rattle.fbc_world.specs.declared.asks.Cause.{Cause};
+ghost use Rattle.fbc_world.specs.declared.drafts.Draft.{Draft};
+ghost use Rattle.fbc_world.specs.declared.events.Act.TheVariants.{Local, Write};
+ghost use Rattle.fbc_world.specs.declared.events.LocalEvent.TheVariants as local;
 
 /// What a legal history begins with is legal.
 pub fn legal_so_far()
@@ -15,10 +20,20 @@ pub fn legal_so_far()
         → IsLegal shape file (moment ∷ before) → IsLegal shape file before }
 {}
 
-/// There are legal histories: in the example a page is locked, read, pinned, edited, written and
-/// given up by one owner, and another then reads what was written.
-pub fn a_written_page_is_read()
-    ensures legal { IsLegal example_shape example_file with_reader }
-    ensures copy { copy_of example_shape example_file with_reader 2 1
-        ≡ Some (page.Inventory (record { page = 1; sequence = 0; taken = true ∷ true ∷ true ∷ [] })) }
+/// A page is written before which no page with a draft stands.
+pub fn writes_come_in_order()
+    ensures { (shape : Shape) (file : View) (before : History) (owner page high : ℕ) (reason : Cause) (failed landed : Bool) (drafted : Draft)
+        → IsLegal shape file (happens owner (Write page reason failed) landed ∷ before)
+        → draft shape file before high ≡ Some drafted → ¬ StandsBefore (IsPair before) high page }
+{}
+
+/// A page is freed that neither the newest header names, nor a newest pointer page that this names.
+pub fn freed_pages_are_named_nowhere()
+    ensures header { (shape : Shape) (file : View) (before : History) (owner page freed : ℕ) (landed : Bool)
+        → IsLegal shape file (happens owner (Local (local.Edit page (FreePage freed))) landed ∷ before)
+        → ¬ Names (newest shape file before 0) freed }
+    ensures pointers { (shape : Shape) (file : View) (before : History) (owner page freed relation sequence pointer : ℕ) (landed : Bool)
+        → IsLegal shape file (happens owner (Local (local.Edit page (FreePage freed))) landed ∷ before)
+        → pointer_of (newest shape file before) relation sequence ≡ Some pointer
+        → ¬ Names (newest shape file before pointer) freed }
 {}

@@ -6,7 +6,7 @@ use Rattle.std.proofs.lemmas.List.{map-append}
 use Rattle.std.proofs.lemmas.List.Kept.{IsStrictlyIncreasing-filter}
 use Rattle.fbc_kinds.specs.declared.rules.Rule.{Rule}
 use Rattle.fbc_validator.specs.Damages.{damage_of}
-use Rattle.fbc_validator.proofs.Members.{In, flat_map_in, in_flat_map}
+use Rattle.fbc_reach.proofs.Members.{In, flat_map_in, in_flat_map}
 use Rattle.fbc_validator.proofs.Places.{contains_in, in_contains}
 
 module _ (f : ℕ → Option Rule) where

@@ -9,11 +9,11 @@ use Rattle.fbc_kinds.specs.Sound.{IsSound}
 use Rattle.fbc_kinds.specs.View.{View}
 use Rattle.fbc_validator.specs.Checked.{AreFindings}
 use Rattle.fbc_validator.specs.Damage.{AreDamages, AreSpelled}
-use Rattle.fbc_validator.specs.Tally.{IsKept, IsTallyOf}
-use Rattle.fbc_validator.specs.Walk.{namings}
+use Rattle.fbc_reach.specs.Tally.{IsKept, IsTallyOf}
+use Rattle.fbc_reach.specs.Walk.{namings}
 use Rattle.fbc_validator.specs.declared.findings.Findings.{Findings}
-use Rattle.fbc_validator.specs.declared.tally.NamedPage.{NamedPage}
-use Rattle.fbc_validator.specs.declared.tally.Tally.{Tally}
+use Rattle.fbc_reach.specs.declared.tally.NamedPage.{NamedPage}
+use Rattle.fbc_reach.specs.declared.tally.Tally.{Tally}
 use Rattle.fbc_validator.proofs.KeptDamages.{any_found}
 
 none_from_length : (damages : List (ℕ × Rule)) → length damages ≡ 0 → damages ≡ []

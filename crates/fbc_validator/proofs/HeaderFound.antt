@@ -22,17 +22,17 @@ use Rattle.fbc_kinds.proofs.Tests.{same_from_test}
 use Rattle.fbc_outside.specs.Faults.{Rose}
 use Rattle.fbc_validator.specs.declared.faults.ValidateFault.{ValidateFault}
 use Rattle.fbc_validator.specs.declared.findings.Findings.{Findings}
-use Rattle.fbc_validator.specs.declared.namings.Naming.{Naming}
-use Rattle.fbc_validator.specs.declared.namings.Role.TheVariants as role
+use Rattle.fbc_reach.specs.declared.namings.Naming.{Naming}
+use Rattle.fbc_reach.specs.declared.namings.Role.TheVariants as role
 use Rattle.fbc_validator.specs.Checked.{AreFindings}
 use Rattle.fbc_validator.specs.Damage.{AreDamages, broken_alone, broken_if, broken_in_place, broken_page, has_other_kind}
-use Rattle.fbc_validator.specs.Reading.{AreBytesOf}
-use Rattle.fbc_validator.specs.Roles.{kind_code}
-use Rattle.fbc_validator.specs.Walk.{naming, is_of_page, inventory_namings, tip_namings, pointer_namings, named_by, walked, namings}
+use Rattle.fbc_reach.specs.Reading.{AreBytesOf}
+use Rattle.fbc_reach.specs.Roles.{kind_code}
+use Rattle.fbc_reach.specs.Walk.{naming, is_of_page, inventory_namings, tip_namings, pointer_namings, named_by, walked, namings}
 use Rattle.fbc_validator.proofs.Found.{with_damage}
-use Rattle.fbc_validator.proofs.Members.{In}
+use Rattle.fbc_reach.proofs.Members.{In}
 use Rattle.fbc_validator.proofs.Places.{contains_in, in_contains}
-use Rattle.fbc_validator.proofs.Shows.{shown_is}
+use Rattle.fbc_reach.proofs.Shows.{shown_is}
 
 module _ (shape : Shape) (bytes : List ℕ) (view : View) (size : IsPageSize shape.size) (shown : IsViewOf shape bytes view) where
   -- a header that the first page spells is the view's

@@ -8,18 +8,18 @@ use Rattle.fbc_kinds.specs.declared.rules.Rule.{Rule}
 use Rattle.fbc_kinds.specs.declared.shapes.Shape.{Shape}
 use Rattle.fbc_kinds.specs.File.{page_bytes, IsViewOf}
 use Rattle.fbc_kinds.specs.View.{View, header_of}
-use Rattle.fbc_validator.specs.declared.chains.Chains.{Chains}
-use Rattle.fbc_validator.specs.declared.namings.Naming.{Naming}
-use Rattle.fbc_validator.specs.declared.tally.NamedPage.{NamedPage}
-use Rattle.fbc_validator.specs.declared.tally.Tally.{Tally}
-use Rattle.fbc_validator.specs.Chains.{AreChainsOf}
+use Rattle.fbc_chains.specs.declared.chains.Chains.{Chains}
+use Rattle.fbc_reach.specs.declared.namings.Naming.{Naming}
+use Rattle.fbc_reach.specs.declared.tally.NamedPage.{NamedPage}
+use Rattle.fbc_reach.specs.declared.tally.Tally.{Tally}
+use Rattle.fbc_chains.specs.Chains.{AreChainsOf}
 use Rattle.fbc_validator.specs.Damage.{broken_page, AreDamages}
 use Rattle.fbc_validator.specs.Damages.{broken_in, damage_in}
-use Rattle.fbc_validator.specs.Tally.{IsKept, IsTallyOf}
-use Rattle.fbc_validator.specs.Walk.{is_of_page, namings}
+use Rattle.fbc_reach.specs.Tally.{IsKept, IsTallyOf}
+use Rattle.fbc_reach.specs.Walk.{is_of_page, namings}
 use Rattle.fbc_validator.proofs.DamageList.{damages_listed, damages_rise}
 use Rattle.fbc_validator.proofs.KeptRules.{rule_is}
-use Rattle.fbc_validator.proofs.Members.{find_in, any_here, any_some, find_some}
+use Rattle.fbc_reach.proofs.Members.{find_in, any_here, any_some, find_some}
 
 found_any : (done : List Naming) (page : ℕ) (n : Naming) → find (is_of_page page) done ≡ Some n → list_any (is_of_page page) done ≡ true
 found_any done page n e = let found = find_in (is_of_page page) done n e in any_here (is_of_page page) done n found.0 found.1

@@ -10,15 +10,15 @@ use Rattle.fbc_kinds.specs.Sound.{IsSound}
 use Rattle.fbc_kinds.specs.View.{View, cell_at, is_top}
 use Rattle.fbc_kinds.proofs.Heads.{both_pass}
 use Rattle.fbc_kinds.proofs.Tests.{same_from_test, test_of_same}
-use Rattle.fbc_validator.specs.Chains.{is_to, is_target}
-use Rattle.fbc_validator.specs.Links.{Link, link_of, links, is_faulty}
-use Rattle.fbc_validator.specs.Walk.{is_of_page, namings}
-use Rattle.fbc_validator.proofs.Chained.{sound_link, on_walk}
-use Rattle.fbc_validator.proofs.Members.{In, any_here, any_some}
-use Rattle.fbc_validator.proofs.SameRoles.{both_true}
-use Rattle.fbc_validator.proofs.SoundLinks.{link_from}
+use Rattle.fbc_chains.specs.Chains.{is_to, is_target}
+use Rattle.fbc_chains.specs.Links.{Link, link_of, links, is_faulty}
+use Rattle.fbc_reach.specs.Walk.{is_of_page, namings}
+use Rattle.fbc_chains.proofs.Chained.{sound_link, on_walk}
+use Rattle.fbc_reach.proofs.Members.{In, any_here, any_some}
+use Rattle.fbc_reach.proofs.SameRoles.{both_true}
+use Rattle.fbc_chains.proofs.SoundLinks.{link_from}
 use Rattle.fbc_validator.proofs.SoundPages.{one, faultless}
-use Rattle.fbc_validator.proofs.Undamaged.{all_slots}
+use Rattle.fbc_reach.proofs.ShownPages.{all_slots}
 
 module _ (shape : Shape) (bytes : List ℕ) (view : View) (size : IsPageSize shape.size) (shown : IsViewOf shape bytes view) (sound : IsSound view) where
   to_target : (relation page cell back_page back_cell : ℕ) (version : Cell) → LinksTo view relation page cell version back_page back_cell → is_target view back_page back_cell ≡ true

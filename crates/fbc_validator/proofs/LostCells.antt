@@ -22,28 +22,28 @@ use Rattle.fbc_kinds.specs.Spelling.{value_length}
 use Rattle.fbc_kinds.specs.View.{View, cell_at, is_empty, is_top, is_back}
 use Rattle.fbc_kinds.proofs.Heads.{both_pass}
 use Rattle.fbc_kinds.proofs.Tests.{test_of_same, same_from_test, false_from_not}
-use Rattle.fbc_validator.specs.Chains.{AreChainsOf, is_linked}
-use Rattle.fbc_validator.specs.Content.{content_of, version_of}
-use Rattle.fbc_validator.specs.Links.{cells_of}
+use Rattle.fbc_chains.specs.Chains.{AreChainsOf, is_linked}
+use Rattle.fbc_reach.specs.Content.{content_of, version_of}
+use Rattle.fbc_chains.specs.Links.{cells_of}
 use Rattle.fbc_validator.specs.Lost.{cell_limit, versions_of, versions_kept, is_unlinked, unlinked_in}
-use Rattle.fbc_validator.specs.Tally.{IsTallyOf}
-use Rattle.fbc_validator.specs.Walk.{naming, is_of_page, data_namings, namings}
-use Rattle.fbc_validator.specs.declared.chains.Chains.{Chains}
-use Rattle.fbc_validator.specs.declared.content.Version.{Version}
-use Rattle.fbc_validator.specs.declared.namings.Naming.{Naming}
-use Rattle.fbc_validator.specs.declared.namings.Role.TheVariants as role
-use Rattle.fbc_validator.specs.declared.tally.Tally.{Tally}
-use Rattle.fbc_validator.proofs.Chained.{cell_stands}
-use Rattle.fbc_validator.proofs.KeptPages.{keeps_content}
+use Rattle.fbc_reach.specs.Tally.{IsTallyOf}
+use Rattle.fbc_reach.specs.Walk.{naming, is_of_page, data_namings, namings}
+use Rattle.fbc_chains.specs.declared.chains.Chains.{Chains}
+use Rattle.fbc_reach.specs.declared.content.Version.{Version}
+use Rattle.fbc_reach.specs.declared.namings.Naming.{Naming}
+use Rattle.fbc_reach.specs.declared.namings.Role.TheVariants as role
+use Rattle.fbc_reach.specs.declared.tally.Tally.{Tally}
+use Rattle.fbc_chains.proofs.Chained.{cell_stands}
+use Rattle.fbc_reach.proofs.KeptPages.{keeps_content}
 use Rattle.fbc_validator.proofs.Linked.{target_of_reached, reached_target}
-use Rattle.fbc_validator.proofs.Members.{In, any_some, any_here, flat_map_in, in_flat_map}
+use Rattle.fbc_reach.proofs.Members.{In, any_some, any_here, flat_map_in, in_flat_map}
 use Rattle.fbc_validator.proofs.Places.{contains_in, in_contains}
-use Rattle.fbc_validator.proofs.Reached.{from_data, data_of_naming, data_walked}
+use Rattle.fbc_reach.proofs.Reached.{from_data, data_of_naming, data_walked}
 use Rattle.fbc_validator.proofs.Rising.{pairs_rise, pages_rise}
-use Rattle.fbc_validator.proofs.SameRoles.{both_true}
-use Rattle.fbc_validator.proofs.SoundLinks.{stands_cell}
+use Rattle.fbc_reach.proofs.SameRoles.{both_true}
+use Rattle.fbc_chains.proofs.SoundLinks.{stands_cell}
 use Rattle.fbc_validator.proofs.SoundPages.{one}
-use Rattle.fbc_validator.proofs.Undamaged.{all_slots, shows}
+use Rattle.fbc_reach.proofs.ShownPages.{all_slots, shows}
 use Rattle.fbc_validator.proofs.Unlinked.{unlinked_at, at_unlinked, unlinked_rise}
 
 versions_shown : (o : Option Page) → versions_of (content_of o) ≡ map version_of (cells_of o)

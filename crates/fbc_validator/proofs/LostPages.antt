@@ -17,19 +17,19 @@ use Rattle.fbc_kinds.specs.View.{View, header_of}
 use Rattle.fbc_kinds.proofs.Heads.{both_pass}
 use Rattle.fbc_kinds.proofs.Tests.{test_of_same, false_from_not}
 use Rattle.fbc_validator.specs.Lost.{is_lost_by}
-use Rattle.fbc_validator.specs.Roles.{reached_as}
-use Rattle.fbc_validator.specs.Tally.{IsTallyOf, IsKept}
-use Rattle.fbc_validator.specs.Walk.{naming, is_of_page, namings}
-use Rattle.fbc_validator.specs.declared.namings.Naming.{Naming}
-use Rattle.fbc_validator.specs.declared.tally.NamedPage.{NamedPage}
-use Rattle.fbc_validator.specs.declared.tally.Tally.{Tally}
-use Rattle.fbc_validator.proofs.Members.{filter_in, in_filter, find_in, find_some}
+use Rattle.fbc_reach.specs.Roles.{reached_as}
+use Rattle.fbc_reach.specs.Tally.{IsTallyOf, IsKept}
+use Rattle.fbc_reach.specs.Walk.{naming, is_of_page, namings}
+use Rattle.fbc_reach.specs.declared.namings.Naming.{Naming}
+use Rattle.fbc_reach.specs.declared.tally.NamedPage.{NamedPage}
+use Rattle.fbc_reach.specs.declared.tally.Tally.{Tally}
+use Rattle.fbc_reach.proofs.Members.{filter_in, in_filter, find_in, find_some}
 use Rattle.fbc_validator.proofs.Places.{contains_in, in_contains, range_in}
-use Rattle.fbc_validator.proofs.Reached.{AreSingle, reached_named, naming_reached}
-use Rattle.fbc_validator.proofs.SameRoles.{as_named, reached_as_named, both_true}
+use Rattle.fbc_reach.proofs.Reached.{AreSingle, reached_named, naming_reached}
+use Rattle.fbc_reach.proofs.SameRoles.{as_named, reached_as_named, both_true}
 use Rattle.fbc_validator.proofs.SoundPages.{one}
 use Rattle.fbc_validator.proofs.TakenPages.{taken_same}
-use Rattle.fbc_validator.proofs.Undamaged.{all_slots, header_size}
+use Rattle.fbc_reach.proofs.ShownPages.{all_slots, header_size}
 
 module _ (shape : Shape) (bytes : List ℕ) (view : View) (shown : IsViewOf shape bytes view) where
   -- a page that is kept is reached, and one that is not kept is not

@@ -6,9 +6,9 @@ use Rattle.std.specs.List.Sorted.{IsPermutation}
 use Rattle.std.proofs.lemmas.List.Kept.{Contains-dedup_nat, Contains-from_dedup}
 use Rattle.std.proofs.lemmas.List.Sorted.{Contains-permutation, IsPermutation-sym}
 use Rattle.fbc_kinds.proofs.Tests.{same_from_test, test_of_same}
-use Rattle.fbc_validator.specs.Walk.{is_of_page}
-use Rattle.fbc_validator.specs.declared.namings.Naming.{Naming}
-use Rattle.fbc_validator.proofs.Members.{In, any_here, any_some}
+use Rattle.fbc_reach.specs.Walk.{is_of_page}
+use Rattle.fbc_reach.specs.declared.namings.Naming.{Naming}
+use Rattle.fbc_reach.proofs.Members.{In, any_here, any_some}
 use Rattle.fbc_validator.proofs.Places.{contains_in, in_contains}
 
 page_in : (ns : List Naming) (page : ℕ) → In (map (λ (n : Naming). n.page) ns) page → (n : Naming) × In ns n × (n.page ≡ page)

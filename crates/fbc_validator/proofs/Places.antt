@@ -7,7 +7,7 @@ use Rattle.std.proofs.lemmas.Bool.{cases_eq, cases_lt}
 use Rattle.std.proofs.lemmas.List.{append-nil, take_all}
 use Rattle.std.proofs.lemmas.List.Elements.{filter-append}
 use Rattle.std.proofs.lemmas.List.FromFn.{length-range_with_len, get_or-range_with_len}
-use Rattle.fbc_validator.proofs.Members.{In}
+use Rattle.fbc_reach.proofs.Members.{In}
 
 pub contains_in : {X : Type 0} (xs : List X) (x : X) → Contains xs x → In xs x
 contains_in [] x c = let none : c.0 < 0 = c.1 in absurd (omega arith)

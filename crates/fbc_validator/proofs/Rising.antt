@@ -5,7 +5,7 @@ use Rattle.std.specs.List.{flat_map}
 use Rattle.std.proofs.lemmas.List.Elements.{All-weaker, All-contains_itself}
 use Rattle.std.proofs.lemmas.List.Kept.{AllPairs-cons}
 use Rattle.fbc_kinds.specs.Lost.{ComesBefore}
-use Rattle.fbc_validator.proofs.Members.{In, in_either, flat_map_in}
+use Rattle.fbc_reach.proofs.Members.{In, in_either, flat_map_in}
 use Rattle.fbc_validator.proofs.Places.{contains_in, in_contains}
 
 -- each cell comes before all later ones

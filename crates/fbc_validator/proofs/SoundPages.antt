@@ -15,20 +15,21 @@ use Rattle.fbc_kinds.specs.Reach as reach
 use Rattle.fbc_kinds.specs.Sound.{IsSound, IsBackValue}
 use Rattle.fbc_kinds.proofs.Tests.{same_from_test, test_of_same, not_of_true, and_fails, and_fails_right, neither, false_from_not}
 use Rattle.fbc_kinds.proofs.Heads.{both_pass}
-use Rattle.fbc_validator.specs.declared.namings.Role.{Role}
-use Rattle.fbc_validator.specs.declared.namings.Role.TheVariants as role
-use Rattle.fbc_validator.specs.declared.namings.Naming.{Naming}
-use Rattle.fbc_validator.specs.Roles.{reached_as, kind_code, is_same_role, has_other_relation, has_other_sequence}
-use Rattle.fbc_validator.specs.Walk.{naming, is_of_page, is_in_role, namings, data_namings, relation_of_role, relation_of_naming}
-use Rattle.fbc_validator.specs.Links.{Link, is_relation, is_smaller_back, is_back_value, links, is_to_same, is_from_same, is_faulty}
-use Rattle.fbc_validator.specs.Damage.{in_some_role, is_late_in, is_late_version, has_late_state, is_uncommitted, has_other_kind, is_named_twice, breaks_chain, breaks_future, breaks_below}
-use Rattle.fbc_validator.proofs.Members.{In, any_none, any_some, find_in, find_some}
+use Rattle.fbc_reach.specs.declared.namings.Role.{Role}
+use Rattle.fbc_reach.specs.declared.namings.Role.TheVariants as role
+use Rattle.fbc_reach.specs.declared.namings.Naming.{Naming}
+use Rattle.fbc_reach.specs.Roles.{reached_as, kind_code, is_same_role, has_other_relation, has_other_sequence, is_late_in, is_late_version, has_late_state}
+use Rattle.fbc_reach.specs.Walk.{naming, is_of_page, is_in_role, namings, data_namings, relation_of_role, relation_of_naming}
+use Rattle.fbc_chains.specs.Links.{Link, is_relation, is_smaller_back, is_back_value, links, is_to_same, is_from_same, is_faulty, is_uncommitted, breaks_chain, breaks_below}
+use Rattle.fbc_validator.specs.Damage.{in_some_role, has_other_kind, is_named_twice, breaks_future}
+use Rattle.fbc_reach.proofs.Members.{In, any_none, any_some, find_in, find_some}
 use Rattle.fbc_validator.proofs.NoRule.{no_rule_broken}
-use Rattle.fbc_validator.proofs.Shows.{shown_code, unbroken_shown}
-use Rattle.fbc_validator.proofs.SameRoles.{as_named, as_named_reached, both_true, own_role, Fits, fits_from}
-use Rattle.fbc_validator.proofs.Reached.{AreSingle, naming_reached, from_data, data_walked}
-use Rattle.fbc_validator.proofs.Undamaged.{AreUnbroken, all_slots, shows}
-use Rattle.fbc_validator.proofs.SoundLinks.{IsLinkOf, link_from}
+use Rattle.fbc_reach.proofs.Shows.{shown_code, unbroken_shown}
+use Rattle.fbc_reach.proofs.SameRoles.{as_named, as_named_reached, both_true, own_role, Fits, fits_from}
+use Rattle.fbc_reach.proofs.Reached.{AreSingle, naming_reached, from_data, data_walked}
+use Rattle.fbc_reach.proofs.ShownPages.{all_slots, shows}
+use Rattle.fbc_validator.proofs.Undamaged.{AreUnbroken}
+use Rattle.fbc_chains.proofs.SoundLinks.{IsLinkOf, link_from}
 
 get_in : {X : Type 0} (xs : List X) (x : X) → In xs x → (k : ℕ) × (slice_get xs k ≡ Some x)
 get_in [] x i = absurd i

@@ -15,18 +15,19 @@ use Rattle.fbc_kinds.specs.Reach as reach
 use Rattle.fbc_kinds.specs.Sound.{IsSound, IsBackValue}
 use Rattle.fbc_kinds.proofs.Heads.{true_from_not, both_pass}
 use Rattle.fbc_kinds.proofs.Tests.{same_from_test, test_of_same, fails_under, both_fail}
-use Rattle.fbc_validator.specs.declared.namings.Role.{Role}
-use Rattle.fbc_validator.specs.declared.namings.Role.TheVariants as role
-use Rattle.fbc_validator.specs.Roles.{reached_as}
-use Rattle.fbc_validator.specs.Walk.{naming, is_of_page, namings, relation_of_role}
-use Rattle.fbc_validator.specs.Links.{Link, link_of, links, is_from_same, is_faulty}
-use Rattle.fbc_validator.specs.Damage.{is_late_in, is_late_version, has_late_state, is_uncommitted, AreSpelled}
-use Rattle.fbc_validator.proofs.Members.{In, any_false, any_here}
+use Rattle.fbc_reach.specs.declared.namings.Role.{Role}
+use Rattle.fbc_reach.specs.declared.namings.Role.TheVariants as role
+use Rattle.fbc_reach.specs.Roles.{reached_as, is_late_in, is_late_version, has_late_state}
+use Rattle.fbc_reach.specs.Walk.{naming, is_of_page, namings, relation_of_role}
+use Rattle.fbc_chains.specs.Links.{Link, link_of, links, is_from_same, is_faulty, is_uncommitted}
+use Rattle.fbc_validator.specs.Damage.{AreSpelled}
+use Rattle.fbc_reach.proofs.Members.{In, any_false, any_here}
 use Rattle.fbc_validator.proofs.NoRule.{tests_passed}
-use Rattle.fbc_validator.proofs.SameRoles.{as_named, reached_as_named, both_true}
-use Rattle.fbc_validator.proofs.Reached.{AreSingle, reached_named, naming_reached, from_data}
-use Rattle.fbc_validator.proofs.Chained.{IsBack, IsSoundLink, back_found, sound_link, on_walk}
-use Rattle.fbc_validator.proofs.Undamaged.{AreUnbroken, all_slots, passes, in_role, fits, single}
+use Rattle.fbc_reach.proofs.SameRoles.{as_named, reached_as_named, both_true}
+use Rattle.fbc_reach.proofs.Reached.{AreSingle, reached_named, naming_reached, from_data}
+use Rattle.fbc_chains.proofs.Chained.{IsBack, IsSoundLink, back_found, sound_link, on_walk}
+use Rattle.fbc_reach.proofs.ShownPages.{all_slots}
+use Rattle.fbc_validator.proofs.Undamaged.{AreUnbroken, passes, in_role, fits, single}
 
 pub in_get : {X : Type 0} (xs : List X) (k : ℕ) (x : X) → slice_get xs k ≡ Some x → In xs x
 in_get [] k x e = cc

@@ -9,15 +9,15 @@ use Rattle.fbc_kinds.specs.declared.shapes.Shape.{Shape}
 use Rattle.fbc_kinds.specs.File.{IsViewOf}
 use Rattle.fbc_kinds.specs.Limits.{inventory_bits}
 use Rattle.fbc_kinds.specs.View.{View, header_of, size_of, inventory_page, inventory_of, mark_in, is_marked, is_taken}
-use Rattle.fbc_validator.specs.Content.{content_of}
+use Rattle.fbc_reach.specs.Content.{content_of}
 use Rattle.fbc_validator.specs.Marks.{mark_of, mark_kept, is_taken_by}
-use Rattle.fbc_validator.specs.Tally.{IsTallyOf}
-use Rattle.fbc_validator.specs.Walk.{naming, namings}
-use Rattle.fbc_validator.specs.declared.namings.Role.TheVariants as role
-use Rattle.fbc_validator.specs.declared.tally.Tally.{Tally}
-use Rattle.fbc_validator.proofs.HeaderNamings.{inventory_named}
-use Rattle.fbc_validator.proofs.KeptPages.{keeps_content}
-use Rattle.fbc_validator.proofs.Reached.{from_inventories}
+use Rattle.fbc_reach.specs.Tally.{IsTallyOf}
+use Rattle.fbc_reach.specs.Walk.{naming, namings}
+use Rattle.fbc_reach.specs.declared.namings.Role.TheVariants as role
+use Rattle.fbc_reach.specs.declared.tally.Tally.{Tally}
+use Rattle.fbc_reach.proofs.HeaderNamings.{inventory_named}
+use Rattle.fbc_reach.proofs.KeptPages.{keeps_content}
+use Rattle.fbc_reach.proofs.Reached.{from_inventories}
 
 mark_shown : (o : Option Page) (place : ℕ) → mark_of (content_of o) place ≡ mark_in o place
 mark_shown (Some (kind.Inventory i)) place = refl

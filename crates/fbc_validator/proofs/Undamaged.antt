@@ -1,44 +1,24 @@
 -- Where no page that is named breaks a rule, the view is sound.
-use Rattle.std.proofs.Common.{◌≡◌, ℕ, ◌==◌, ◌&&◌, Bool, true, false, not, List, Option, Some, None, is_some, refl, sym, subst, ap, ◌∙◌, find, slice_index}
+use Rattle.std.proofs.Common.{◌≡◌, ℕ, ◌==◌, ◌&&◌, Bool, true, false, not, List, Option, Some, None, is_some, refl, sym, ap, ◌∙◌, find, slice_index}
 use Rattle.std.specs.List.{list_any}
-use Rattle.std.specs.Option.{option_map_or}
 use Rattle.fbc_kinds.specs.declared.pages.Page.{Page}
-use Rattle.fbc_kinds.specs.declared.pages.Page.TheVariants as kind
-use Rattle.fbc_kinds.specs.declared.pages.Header.{Header}
 use Rattle.fbc_kinds.specs.declared.shapes.Shape.{Shape}
-use Rattle.fbc_kinds.specs.Limits.{slots}
-use Rattle.fbc_kinds.specs.File.{page_bytes, IsViewOf, Shows, ShowsPage}
-use Rattle.fbc_kinds.specs.View.{View, header_in, header_of, size_of}
+use Rattle.fbc_kinds.specs.File.{page_bytes, IsViewOf}
+use Rattle.fbc_kinds.specs.View.{View}
 use Rattle.fbc_kinds.specs.Reach as reach
 use Rattle.fbc_kinds.proofs.Heads.{true_from_not}
 use Rattle.fbc_kinds.proofs.Tests.{same_from_test, test_of_same, fails_under}
-use Rattle.fbc_validator.specs.declared.namings.Role.{Role}
-use Rattle.fbc_validator.specs.declared.namings.Naming.{Naming}
-use Rattle.fbc_validator.specs.Roles.{reached_as, kind_code, has_other_relation, has_other_sequence}
-use Rattle.fbc_validator.specs.Walk.{is_of_page, is_in_role, namings}
+use Rattle.fbc_reach.specs.declared.namings.Role.{Role}
+use Rattle.fbc_reach.specs.declared.namings.Naming.{Naming}
+use Rattle.fbc_reach.specs.Roles.{reached_as, kind_code, has_other_relation, has_other_sequence}
+use Rattle.fbc_reach.specs.Walk.{is_of_page, is_in_role, namings}
 use Rattle.fbc_validator.specs.Damage.{in_some_role, broken_page, AreSpelled}
-use Rattle.fbc_validator.proofs.Members.{In, any_false, any_here}
+use Rattle.fbc_reach.proofs.Members.{In, any_false, any_here}
 use Rattle.fbc_validator.proofs.NoRule.{BreaksNone, tests_passed}
-use Rattle.fbc_validator.proofs.Shows.{shown_code}
-use Rattle.fbc_validator.proofs.SameRoles.{same_role, has_role_from}
-use Rattle.fbc_validator.proofs.DataNamings.{HaveAllSlots}
-use Rattle.fbc_validator.proofs.Reached.{AreSingle}
-
-header_stands : (o : Option Page) (h : Header) → header_in o ≡ Some h → o ≡ Some (kind.Header h)
-header_stands (Some (kind.Header g)) h e = let same : g ≡ h = cc in ap (λ x. Some (kind.Header x)) same
-header_stands _ h e = cc
-
-module _ (shape : Shape) (bytes : List ℕ) (view : View) (shown : IsViewOf shape bytes view) where
-  pub shows : (page : ℕ) (stands : Page) → view page ≡ Some stands → ShowsPage shape page (page_bytes shape.size bytes page) stands
-  shows page stands e = let P : Option Page → Type 0 = Shows shape page (page_bytes shape.size bytes page) in subst P e (shown page)
-
-  pub header_size : (h : Header) → header_of view ≡ Some h → size_of view ≡ shape.size
-  header_size h is =
-      let s = shows 0 (kind.Header h) (header_stands (view 0) h is) in
-      ap (λ o. option_map_or (λ (g : Header). g.size) o 0) is ∙ s.spelled.fits.page_size
-
-  pub all_slots : (h : Header) → header_of view ≡ Some h → HaveAllSlots view
-  all_slots h is page p e = (shows page (kind.Pointer p) e).spelled.fits.count ∙ ap slots (sym (header_size h is))
+use Rattle.fbc_reach.proofs.ShownPages.{shows}
+use Rattle.fbc_reach.proofs.Shows.{shown_code}
+use Rattle.fbc_reach.proofs.SameRoles.{same_role, has_role_from}
+use Rattle.fbc_reach.proofs.Reached.{AreSingle}
 
 -- no page that is named breaks a rule
 abbrev pub AreUnbroken : Shape → List ℕ → View → Type 0

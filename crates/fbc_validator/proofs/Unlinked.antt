@@ -3,9 +3,9 @@ use Rattle.std.proofs.Common.{◌≡◌, ℕ, zero, suc, ◌+◌, ◌<◌, Bool,
 use Rattle.std.proofs.lemmas.List.{append-nil, take_more, length-take-le}
 use Rattle.fbc_kinds.specs.Lost.{ComesBefore}
 use Rattle.fbc_validator.specs.Lost.{is_unlinked, unlinked_from}
-use Rattle.fbc_validator.specs.declared.chains.Chains.{Chains}
-use Rattle.fbc_validator.specs.declared.content.Version.{Version}
-use Rattle.fbc_validator.proofs.Members.{In}
+use Rattle.fbc_chains.specs.declared.chains.Chains.{Chains}
+use Rattle.fbc_reach.specs.declared.content.Version.{Version}
+use Rattle.fbc_reach.proofs.Members.{In}
 use Rattle.fbc_validator.proofs.Rising.{Rises}
 
 -- a cell of the list is the place of such a version

@@ -1,14 +1,5 @@
-pub mod Reading
-pub mod Roles
-pub mod Walk
-pub mod Links
 pub mod Damage
 pub mod Damages
-pub mod Content
-pub mod Tally
-pub mod Versions
-pub mod Chains
 pub mod Marks
 pub mod Lost
 pub mod Checked
-pub mod Following

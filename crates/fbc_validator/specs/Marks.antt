@@ -4,10 +4,10 @@ use Rattle.indexmap.specs.IndexMap.{get}
 use Rattle.fbc_kinds.specs.Limits.{inventory_bits}
 use Rattle.fbc_kinds.specs.View.{inventory_page, is_marked}
 use Rattle.fbc_kinds.specs.declared.pages.Header.{Header}
-use Rattle.fbc_validator.specs.declared.content.Content.{Content}
-use Rattle.fbc_validator.specs.declared.content.Content.TheVariants as content
-use Rattle.fbc_validator.specs.declared.tally.NamedPage.{NamedPage}
-use Rattle.fbc_validator.specs.declared.tally.Tally.{Tally}
+use Rattle.fbc_reach.specs.declared.content.Content.{Content}
+use Rattle.fbc_reach.specs.declared.content.Content.TheVariants as content
+use Rattle.fbc_reach.specs.declared.tally.NamedPage.{NamedPage}
+use Rattle.fbc_reach.specs.declared.tally.Tally.{Tally}
 
 -- The mark at a place of a page inventory; no other page has any.
 abbrev pub mark_of : Content → ℕ → Option Bool

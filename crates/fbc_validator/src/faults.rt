@@ -1,7 +1,7 @@
 //! Why a file was not checked.
 
 use fbc_kinds::Rule;
-use fbc_outside::Failed;
+use fbc_reach::ReadFault;
 use std::alloc::AllocError;
 use thiserror::Error;
 
@@ -18,14 +18,19 @@ pub enum ValidateFault {
     Memory,
 }
 
-impl From<Failed> for ValidateFault {
-    ghost use Rattle.std.specs.Prelude.{◌≡◌};
-    ghost use Rattle.fbc_validator.specs.declared.faults.ValidateFault.TheVariants.{DeviceFault};
+impl From<ReadFault> for ValidateFault {
+    ghost use Rattle.std.specs.Prelude.{◌≡◌, ◌⊎◌};
+    ghost use Rattle.fbc_reach.specs.declared.faults.ReadFault.TheVariants as read;
+    ghost use Rattle.fbc_validator.specs.declared.faults.ValidateFault.TheVariants.{DeviceFault, Memory};
 
-    ghost from_gives = { λ _ fault. fault ≡ DeviceFault };
+    ghost from_gives = { λ read_fault fault.
+        ((read_fault ≡ read.DeviceFault) × (fault ≡ DeviceFault)) ⊎ ((read_fault ≡ read.Memory) × (fault ≡ Memory)) };
 
-    fn from(_failed: Failed) -> ValidateFault {
-        ValidateFault::DeviceFault
+    fn from(fault: ReadFault) -> ValidateFault {
+        match fault {
+            ReadFault::DeviceFault => ValidateFault::DeviceFault,
+            ReadFault::Memory => ValidateFault::Memory,
+        }
     }
 }
 

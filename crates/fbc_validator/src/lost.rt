@@ -1,27 +1,25 @@
 //! Lost space: pages that are taken and not reached, and cells of reached data pages that hold a
 //! version and are not reached.
 
-ghost use Rattle.std.specs.Prelude.{◌≡◌, ◌≤◌, ◌<◌, ◌+◌, ◌*◌, ◌++◌, ◌↔◌, ℕ, List, AllPairs, Contains, Some, IfOk, OnOk, filter, map, take, true};
-ghost use Rattle.std.specs.List.{flat_map, list_any, range_with_len};
+ghost use Rattle.std.specs.Prelude.{◌≡◌, ◌≤◌, ◌<◌, ◌+◌, ◌*◌, ◌++◌, ◌↔◌, ℕ, List, AllPairs, Contains, Some, IfOk, OnOk, map, take, true};
+ghost use Rattle.std.specs.List.{list_any};
 ghost use Rattle.std.specs.List.Sorted.{IsStrictlyIncreasing};
 ghost use Rattle.fbc_kinds.specs.File.{IsViewOf};
-ghost use Rattle.fbc_kinds.specs.Limits.{IsPageSize, inventory_bits, inventory_limit};
+ghost use Rattle.fbc_kinds.specs.Limits.{IsPageSize, inventory_limit};
 ghost use Rattle.fbc_kinds.specs.Lost.{ComesBefore, IsLostCell, IsLostPage, IsLostSpace};
 ghost use Rattle.fbc_kinds.specs.Sound.{IsSound};
-ghost use Rattle.fbc_kinds.specs.View.{View, header_of, is_marked};
+ghost use Rattle.fbc_kinds.specs.View.{View, header_of};
 ghost use Rattle.fbc_kinds.specs.declared.shapes.Shape.{Shape};
-ghost use Rattle.fbc_validator.specs.Chains.{AreChainsOf};
-ghost use Rattle.fbc_validator.specs.Lost.{cell_limit, is_lost_by, is_unlinked, unlinked_from, unlinked_in, versions_kept};
-ghost use Rattle.fbc_validator.specs.Tally.{IsTallyOf};
-ghost use Rattle.fbc_validator.specs.Walk.{data_namings, is_of_page, namings};
-ghost use Rattle.fbc_validator.specs.declared.namings.Naming.{Naming};
+ghost use Rattle.fbc_chains.specs.Chains.{AreChainsOf};
+ghost use Rattle.fbc_validator.specs.Lost.{cell_limit, is_lost_by, is_unlinked, unlinked_from, unlinked_in};
+ghost use Rattle.fbc_reach.specs.Tally.{IsTallyOf};
+ghost use Rattle.fbc_reach.specs.Walk.{data_namings, is_of_page, namings};
+ghost use Rattle.fbc_reach.specs.declared.namings.Naming.{Naming};
 
-use crate::chains::Chains;
-use crate::content::{Content, Version};
 use crate::marks::is_taken;
-use crate::namings::Naming;
-use crate::tally::Tally;
+use fbc_chains::Chains;
 use fbc_kinds::{Flag, Header, Listed};
+use fbc_reach::{Content, Naming, Tally, Version};
 use std::alloc::{AllocError, Global};
 
 /// The place of a cell has two bytes.

@@ -5,10 +5,8 @@ ghost use Rattle.fbc_kinds.specs.Limits.{IsPageSize, inventory_limit};
 ghost use Rattle.fbc_kinds.specs.View.{is_marked};
 ghost use Rattle.fbc_validator.specs.Marks.{is_taken_by, mark_of};
 
-use crate::content::Content;
-use crate::namings::inventory_page;
-use crate::tally::Tally;
 use fbc_kinds::Header;
+use fbc_reach::{Content, Tally, inventory_page};
 
 /// Whether a page is taken, by what is kept of the page inventory that covers it.
 pub(crate) fn is_taken(tally: &Tally, header: &Header, page: u32) -> bool

@@ -1,30 +1,28 @@
 //! The check of a whole file: opening, walk, chains, damages and lost space.
 
-ghost use Rattle.std.specs.Prelude.{◌≡◌, ◌≤◌, ◌*◌, ◌/◌, ◌^◌, ◌⊎◌, ℕ, List, [], ◌∷◌, Some, Err, IfOk, IfErr, length};
+ghost use Rattle.std.specs.Prelude.{◌≡◌, ◌≤◌, ◌/◌, ◌^◌, ◌⊎◌, ℕ, List, [], ◌∷◌, Some, Err, IfOk, IfErr, length};
 ghost use Rattle.fbc_kinds.specs.File.{IsViewOf};
-ghost use Rattle.fbc_kinds.specs.HeaderSpelling.{IsHeader, IsShape, SpellsHeader};
+ghost use Rattle.fbc_kinds.specs.HeaderSpelling.{IsHeader, IsShape};
 ghost use Rattle.fbc_kinds.specs.Limits.{IsPageSize};
 ghost use Rattle.fbc_kinds.specs.View.{View, header_of};
 ghost use Rattle.fbc_kinds.specs.declared.shapes.Shape.{Shape};
 ghost use Rattle.fbc_outside.specs.Faults.{Rose};
 ghost use Rattle.fbc_validator.specs.Checked.{AreFindings, HasFound, WhyNotChecked};
-ghost use Rattle.fbc_validator.specs.Content.{IsReadOf};
-ghost use Rattle.fbc_validator.specs.Tally.{IsTallyOf};
-ghost use Rattle.fbc_validator.specs.Walk.{data_namings, namings};
+ghost use Rattle.fbc_reach.specs.Content.{IsReadOf};
+ghost use Rattle.fbc_reach.specs.Tally.{IsTallyOf};
+ghost use Rattle.fbc_reach.specs.Walk.{data_namings, namings};
 
-use crate::chains::follow;
-use crate::content::{PageRead, content_shown};
 use crate::damages::damages;
 use crate::faults::ValidateFault;
 use crate::findings::Findings;
 use crate::laws::sound_without_damage;
 use crate::lost::lost_space;
-use crate::reading::read_bytes;
-use crate::walking::{Visited, walk};
+use fbc_chains::follow;
 use fbc_files::{OpenFault, open};
 use fbc_kinds::{Header, Listed, PageFault, Rule, Shape};
 use fbc_outside::Device;
 use fbc_pages::decode_header;
+use fbc_reach::{PageRead, Visited, content_shown, read_bytes, walk};
 use std::alloc::{AllocError, Global};
 
 /// Checks the file on the device: its damages, and where it has none its lost space. It opens the

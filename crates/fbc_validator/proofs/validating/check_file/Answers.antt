@@ -1,8 +1,8 @@
 use Rattle.std.proofs.Common.{List, ℕ, Option, sym, subst}
 use Rattle.fbc_kinds.specs.HeaderSpelling.{SpellsHeader}
-use Rattle.fbc_validator.specs.Content.{IsReadFrom, IsReadOf}
-use Rattle.fbc_validator.specs.Reading.{AreBytesOf}
-use Rattle.fbc_validator.proofs.Contents.{read_of}
+use Rattle.fbc_reach.specs.Content.{IsReadFrom, IsReadOf}
+use Rattle.fbc_reach.specs.Reading.{AreBytesOf}
+use Rattle.fbc_reach.proofs.Contents.{read_of}
 use Rattle.fbc_validator.proofs.HeaderFound.{file_damaged, file_found, rose_before}
 use Rattle.fbc_validator.proofs.validating.check_file.Goals as goal
 

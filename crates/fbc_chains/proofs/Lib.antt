@@ -1,0 +1,12 @@
+pub mod Chained
+pub mod SoundLinks
+pub mod MarkedCells
+pub mod Marking
+pub mod Noting
+pub mod WalkedPages
+pub mod LinkSteps
+pub mod ChainLinks
+pub mod ChainClosed
+pub mod Followed
+pub mod TopLinks
+pub mod PageLinks

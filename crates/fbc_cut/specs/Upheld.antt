@@ -1,0 +1,36 @@
+-- What every legal history upholds.
+use Rattle.std.specs.Prelude.{◌≡◌, ℕ, Option, Some, None, true, is_some}
+use Rattle.fbc_kinds.specs.Meaning.{MeanTheSame, meaning_of}
+use Rattle.fbc_kinds.specs.Sound.{IsSound}
+use Rattle.fbc_views.specs.Edited.{IsOfShape}
+use Rattle.fbc_world.specs.Holdings.{is_draft_of}
+use Rattle.fbc_world.specs.World.{World, newest_of}
+use Rattle.fbc_legal.specs.Coherent.{IsCoherent}
+use Rattle.fbc_legal.specs.Scene.{Scene}
+use Rattle.fbc_cut.specs.Cut.{Cut, IsClosedCut, view}
+use Rattle.fbc_cut.specs.Growth.{GrowsInto}
+use Rattle.fbc_cut.specs.Standing.{commits_in, machine_of, settled_by}
+
+-- A mark of a commit stands in a draft of its owner, whose transaction is open.
+abbrev pub IsMarkDrafted : World → ℕ → Option ℕ → Type 0
+IsMarkDrafted w owner None = Unit {0}
+IsMarkDrafted w owner (Some page) = (is_draft_of owner (w.draft page) ≡ true) × (is_some (w.transaction owner) ≡ true)
+
+abbrev pub MarksAreDrafted : World → Type 0
+MarksAreDrafted w = (owner : ℕ) → IsMarkDrafted w owner (w.marked owner)
+
+pub record IsUpheld (at : Scene) : Type 0 where
+  -- Locks, copies, drafts and pairs are coherent.
+  pub coherent : IsCoherent at.world
+  -- The newest header has grown out of the one in the file.
+  pub headers : GrowsInto (at.world.kept 0) (newest_of at.world 0)
+  -- Each mark of a commit stands in a draft of its owner.
+  pub marks : MarksAreDrafted at.world
+  -- What the file holds with the drafts of a closed cut are pages of a file of its shape.
+  pub of_shape : (cut : Cut) → IsClosedCut at.world cut → IsOfShape at.shape (view at.world cut)
+  -- They are sound.
+  pub sound : (cut : Cut) → IsClosedCut at.world cut → IsSound (view at.world cut)
+  -- They mean the same as the machine after the commands so far, where the commits are done whose marks stand in drafts of the
+  -- cut, and all other open transactions are rolled back.
+  pub means : (cut : Cut) → IsClosedCut at.world cut
+      → MeanTheSame (meaning_of (view at.world cut)) (settled_by (commits_in at.world cut) (machine_of at.shape at.file at.past))

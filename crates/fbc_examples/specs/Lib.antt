@@ -1,0 +1,10 @@
+pub mod Files
+pub mod Steps
+pub mod Pages
+pub mod Rows
+pub mod Clearing
+pub mod Owners
+pub mod Writing
+pub mod Kinds
+pub mod Forms
+pub mod Refused

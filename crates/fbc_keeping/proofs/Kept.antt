@@ -1,0 +1,24 @@
+-- A view that reads as it did means what it meant.
+use Rattle.std.proofs.Common.{◌≡◌, [], ℕ, sym, subst}
+use Rattle.fbc_kinds.specs.declared.pages.Page.{Page}
+use Rattle.fbc_kinds.specs.Machine.{Machine}
+use Rattle.fbc_kinds.specs.Meaning.{MeanTheSame}
+use Rattle.fbc_kinds.specs.Reach.{ReachesPage}
+use Rattle.fbc_kinds.specs.Sound.{IsSound}
+use Rattle.fbc_kinds.specs.View.{View, next_of}
+use Rattle.fbc_keeping.specs.Seen.{IsKept}
+use Rattle.fbc_views.specs.Alike.{ReadAlike}
+use Rattle.fbc_views.specs.Edited.{with_page}
+use Rattle.fbc_views.proofs.OffReach.{off_reach_alike, off_reach_next, off_reach_sound}
+use Rattle.fbc_views.proofs.SameMeaning.{meaning_same}
+
+pub kept_alike : (before after : View) → IsSound after → ReadAlike before after → next_of after ≡ next_of before → IsKept before after
+kept_alike before after sound alike next = record {
+  sound = sound;
+  means = λ machine means. subst (λ (a : Machine). MeanTheSame a machine) (sym (meaning_same [] before after alike.states alike.chains next)) means;
+}
+
+-- a page that is not reached may become any
+pub kept_off : (view : View) (number : ℕ) (content : Page) → IsSound view → ¬ ReachesPage view number → IsKept view (with_page view number content)
+kept_off view number content sound off =
+    kept_alike view (with_page view number content) (off_reach_sound view number content off sound) (off_reach_alike view number content off sound) (off_reach_next view number content off)

@@ -1,0 +1,8 @@
+pub mod Shown
+pub mod Ready
+pub mod Kept
+pub mod StaysTrue
+pub mod HeaderEdits
+pub mod NextNumbers
+pub mod PageEdits
+pub mod UpheldThroughout

@@ -1,0 +1,5 @@
+pub mod Reading
+pub mod Roles
+pub mod Walk
+pub mod Content
+pub mod Tally

@@ -1,0 +1,4 @@
+pub mod Forms
+pub mod Differences
+pub mod Open
+pub mod Puts

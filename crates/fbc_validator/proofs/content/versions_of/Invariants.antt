@@ -1,7 +1,0 @@
-use Rattle.std.proofs.Common.{◌≡◌, map, take}
-use Rattle.fbc_validator.specs.Content.{version_of}
-use Rattle.fbc_validator.proofs.content.versions_of.Given as goal
-
--- the cells so far
-abbrev pub invariant-loop-cell : goal.invariant-loop-cell
-invariant-loop-cell l = l.versions.items ≡ map version_of (take l.cell-index l.cells)

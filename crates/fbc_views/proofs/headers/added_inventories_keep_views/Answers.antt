@@ -1,0 +1,29 @@
+use Rattle.fbc_kinds.specs.Sound.{IsSound}
+use Rattle.fbc_views.specs.Alike.{KeepsLostPages, ReadAlike}
+use Rattle.fbc_views.proofs.Fitted.{adds_inventory}
+use Rattle.fbc_views.proofs.HeaderCases.{header_cases}
+use Rattle.fbc_views.proofs.HeaderStands.{header_is}
+use Rattle.fbc_views.proofs.InventoryAdded.{added_inventory_alike, added_inventory_lost, added_inventory_sound}
+use Rattle.fbc_views.proofs.OffReach.{off_reach_alike, off_reach_lost, off_reach_sound}
+use Rattle.fbc_views.proofs.headers.added_inventories_keep_views.Goals as goal
+
+pub returns-clause-sound : goal.returns-clause-sound
+returns-clause-sound c = λ shape view number content is.
+    let made = adds_inventory shape (view number) content is.fits in
+    header_cases IsSound view number content made.header _ is.sound made.changes
+    (λ stands. added_inventory_sound shape view made.header is.sound is.of_shape stands (rw (header_is view made.header stands) at is.allowed))
+    (λ off. off_reach_sound view number content off is.sound)
+
+pub returns-clause-alike : goal.returns-clause-alike
+returns-clause-alike c = λ shape view number content is.
+    let made = adds_inventory shape (view number) content is.fits in
+    header_cases (ReadAlike view) view number content made.header _ is.sound made.changes
+    (λ stands. added_inventory_alike shape view made.header is.sound is.of_shape stands (rw (header_is view made.header stands) at is.allowed))
+    (λ off. off_reach_alike view number content off is.sound)
+
+pub returns-clause-lost : goal.returns-clause-lost
+returns-clause-lost c = λ shape view number content is.
+    let made = adds_inventory shape (view number) content is.fits in
+    header_cases (KeepsLostPages view) view number content made.header _ is.sound made.changes
+    (λ stands. added_inventory_lost shape view made.header is.sound is.of_shape stands (rw (header_is view made.header stands) at is.allowed))
+    (λ off. off_reach_lost view number content off)

@@ -1,0 +1,34 @@
+use Rattle.std.proofs.Common.{subst, true}
+use Rattle.fbc_kinds.specs.declared.pages.Page.{Page}
+use Rattle.fbc_kinds.specs.Lost.{IsLostPage}
+use Rattle.fbc_kinds.specs.Sound.{IsSound}
+use Rattle.fbc_views.specs.Alike.{KeepsLostPages, ReadAlike}
+use Rattle.fbc_views.specs.Edited.{with_page}
+use Rattle.fbc_views.proofs.Fitted.{takes_mark}
+use Rattle.fbc_views.proofs.MarkChanged.{mark_alike}
+use Rattle.fbc_views.proofs.PageTaken.{taken_is_lost, taken_lost, taken_sound}
+use Rattle.fbc_views.proofs.inventories.taken_pages_keep_views.Goals as goal
+
+pub returns-clause-sound : goal.returns-clause-sound
+returns-clause-sound c = λ shape view number page content is.
+    let made = takes_mark shape page (view number) content is.fits in
+    let P : Page → Type 0 = λ after. IsSound (with_page view number after) in
+    subst P made.made (taken_sound shape view number page made.inventory is.of_shape is.sound made.stands made.covered)
+
+pub returns-clause-alike : goal.returns-clause-alike
+returns-clause-alike c = λ shape view number page content is.
+    let made = takes_mark shape page (view number) content is.fits in
+    let P : Page → Type 0 = λ after. ReadAlike view (with_page view number after) in
+    subst P made.made (mark_alike view number made.inventory shape.size page true made.stands is.sound)
+
+pub returns-clause-lost : goal.returns-clause-lost
+returns-clause-lost c = λ shape view number page content is.
+    let made = takes_mark shape page (view number) content is.fits in
+    let P : Page → Type 0 = λ after. KeepsLostPages view (with_page view number after) in
+    subst P made.made (taken_lost shape view number page made.inventory is.of_shape is.sound made.stands made.covered)
+
+pub returns-clause-taken : goal.returns-clause-taken
+returns-clause-taken c = λ shape view number page content is reached unreached.
+    let made = takes_mark shape page (view number) content is.fits in
+    let P : Page → Type 0 = λ after. IsLostPage (with_page view number after) page in
+    subst P made.made (taken_is_lost shape view number page made.inventory is.of_shape is.sound made.stands made.covered reached unreached)

@@ -1,0 +1,4 @@
+pub mod Edited
+pub mod Facing
+pub mod Alike
+pub mod Allowed
