@@ -1,5 +1,5 @@
 -- The laws of views for whole legal histories.
-use Rattle.std.proofs.Common.{◌≡◌, ◌≢◌, ℕ, Bool, true, false, ◌∷◌, Option, Some, is_some, sym, subst}
+use Rattle.std.proofs.Common.{◌≡◌, ◌≢◌, ℕ, Bool, true, false, ◌∷◌, Option, Some, is_some, sym, subst, ◌⊎◌, inl, inr, refl}
 use Rattle.std.specs.Prelude.{if◌then◌else◌, ◌==◌}
 use Rattle.fbc_kinds.specs.declared.edits.Edit.{Edit}
 use Rattle.fbc_kinds.specs.declared.pages.Page.{Page}
@@ -16,10 +16,11 @@ use Rattle.fbc_legal.specs.Facts.{Fact}
 use Rattle.fbc_legal.specs.Leans.{IsNamedNowhere, IsShown}
 use Rattle.fbc_legal.specs.Legal.{IsLegal}
 use Rattle.fbc_legal.specs.Rows.{IsNoInventory}
-use Rattle.fbc_legal.specs.Scene.{scene_of}
+use Rattle.fbc_legal.specs.Scene.{HasDraft, IsBefore, scene_of}
 use Rattle.fbc_legal.specs.Stamps.{PageStamps, Stamps, born_in_newest, stamp_after, stamped, stamps_for, stamps_of}
 use Rattle.fbc_legal.proofs.Induction.{IsCoherent-legal, requests_true}
 use Rattle.fbc_cut.specs.Cut.{Cut, IsClosedCut, view}
+use Rattle.fbc_cut.specs.Owed.{IsSeenKept, IsSeenNewest, SeesEdit}
 use Rattle.fbc_cut.specs.Views.{IsSameView, IsViewOfEdit, cut_before, drafted_in, is_edit, view_stamps}
 use Rattle.fbc_cut.proofs.ActViews.{act-views}
 use Rattle.fbc_cut.proofs.EditViews.{edit-changes, edit-leaves, still_drafted}
@@ -83,3 +84,31 @@ module _ (shape : Shape) (file : View) (before : History) (owner page : ℕ) (e 
     named_nowhere-unreached other legal closed in_cut nowhere apart none =
         unreached-view (scene_of shape file before) (IsCoherent-legal shape file before legal) owner page cut (takes closed in_cut) (edit-views closed in_cut).closed
         (headers-grow shape file before legal) other nowhere apart none
+
+    newest_or_kept : (other : ℕ) (b : Bool) → drafted_in w cut other ≡ b
+        → IsSeenNewest (scene_of shape file before) other (view w (drafted_in w cut) other) (view_stamps w s (drafted_in w cut) other)
+        ⊎ IsSeenKept (scene_of shape file before) other (view w (drafted_in w cut) other) (view_stamps w s (drafted_in w cut) other)
+    newest_or_kept other true at = inl (record { page = rw at refl; stamps = rw at refl })
+    newest_or_kept other false at = inr (record { page = rw at refl; stamps = rw at refl })
+
+    -- a view that comes to hold the page sees the edit
+    pub edit-sees : IsLegal shape file before → IsClosedCut (world_of shape file (edits ∷ before)) cut → cut page ≡ true
+        → SeesEdit (scene_of shape file before) owner page (view w (drafted_in w cut)) (view_stamps w s (drafted_in w cut))
+    edit-sees legal closed in_cut = record {
+      cut = drafted_in w cut;
+      closed = changed.closed;
+      pages = λ other. refl;
+      origins = λ other. refl;
+      edited_page = record { page = changed.was; stamps = changed.stamps_were };
+      before = newest_before;
+      each = λ other. newest_or_kept other (drafted_in w cut other) refl;
+      unreached = λ other nowhere apart none. named_nowhere-unreached other legal closed in_cut nowhere apart none;
+    } where
+      changed : IsViewOfEdit w s (world_of shape file (edits ∷ before)) (stamps_of shape file (edits ∷ before)) page content cut
+      changed = edit-views closed in_cut
+
+      newest_before : (other : ℕ) → HasDraft (scene_of shape file before) owner other → IsBefore (scene_of shape file before) other page
+          → IsSeenNewest (scene_of shape file before) other (view w (drafted_in w cut) other) (view_stamps w s (drafted_in w cut) other)
+      newest_before other own path =
+          let at : drafted_in w cut other ≡ true = rw ((takes closed in_cut).before_in other own path, draft_there owner (w.draft other) own) refl in
+          record { page = rw at refl; stamps = rw at refl }

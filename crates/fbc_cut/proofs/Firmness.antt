@@ -79,12 +79,18 @@ module _ (shape : Shape) (file : View) (before : History) (moment : Moment) (own
       draft_left shape file before moment owner legal lives apart page found.0 (sym ((IsReplayed-world shape file before).draft_is page) ∙ found.1) found.2 in
       rw ((IsReplayed-world shape file (moment ∷ before)).draft_is page ∙ stays) (grind (arith, nat_tests, found.2))
 
+  pub own-before : (cut : Cut) → HasOwnDrafts after owner cut → HasOwnDrafts w owner (cut_before moment.event.act moment.landed cut)
+  own-before cut own = record {
+    closed = (no-new-views shape file before moment cut legal plain own.closed).closed;
+    own = λ page its. before_in moment.event.act moment.landed cut page (own.own page (left page its));
+  }
+
+  pub one-view : (cut : Cut) → HasOwnDrafts after owner cut → view after cut ≡ view w (cut_before moment.event.act moment.landed cut)
+  one-view cut own = fun_ext (λ page. (no-new-views shape file before moment cut legal plain own.closed).pages page)
+
   pub firm-stays : (passes : View → Bool) → IsFirm w owner passes → IsFirm after owner passes
   firm-stays passes firm cut own =
-      let same = no-new-views shape file before moment cut legal plain own.closed in
-      let has : HasOwnDrafts w owner (cut_before moment.event.act moment.landed cut) = record { closed = same.closed; own = λ page its. before_in moment.event.act moment.landed cut page (own.own page (left page its)) } in
-      let one : view w (cut_before moment.event.act moment.landed cut) ≡ view after cut = sym (fun_ext (λ page. same.pages page)) in
-      subst (λ (v : View). passes v ≡ true) one (firm (cut_before moment.event.act moment.landed cut) has)
+      subst (λ (v : View). passes v ≡ true) (sym (one-view cut own)) (firm (cut_before moment.event.act moment.landed cut) (own-before cut own))
 
 -- what is firm is so of the newest pages
 pub firm-newest : (w : World) (owner : ℕ) (passes : View → Bool) → IsFirm w owner passes → passes (newest_of w) ≡ true

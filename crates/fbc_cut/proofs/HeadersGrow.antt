@@ -26,7 +26,7 @@ use Rattle.fbc_cut.proofs.Lineage.{lineage-acted}
 from_none : (before after : Option Page) → header_in before ≡ None → GrowsInto before after
 from_none before after none header is = absurd (let both : None ≡ Some header = sym none ∙ is in cc)
 
-edit-grows : (shape : Shape) (e : Edit) (before : Option Page) (content : Page) → is_format e ≡ false → IsNoFall before e → edited shape e before ≡ Some content → GrowsInto before (Some content)
+pub edit-grows : (shape : Shape) (e : Edit) (before : Option Page) (content : Page) → is_format e ≡ false → IsNoFall before e → edited shape e before ≡ Some content → GrowsInto before (Some content)
 edit-grows shape e None content plain more is = from_none None (Some content) refl
 edit-grows shape e (Some (kind.Header header)) content plain more is = header-grows shape header e content plain more is
 edit-grows shape e (Some (kind.Inventory i)) content plain more is = from_none (Some (kind.Inventory i)) (Some content) refl
@@ -39,7 +39,7 @@ module _ (at : Scene) (h : IsCoherent at.world) (owner : ℕ) where
   abbrev w : World
   w = at.world
 
-  no_fall : (e : Edit) → IsEditOfRow at owner 0 e → IsNoFall (newest_of w 0) e
+  pub no_fall : (e : Edit) → IsEditOfRow at owner 0 e → IsNoFall (newest_of w 0) e
   no_fall (edit.SetNext next) row = λ header is. grind (arith, row.2, row.3, next_is header is) where
     next_is : (header : Header) → header_in (newest_of w 0) ≡ Some header → next_of (newest_at at) ≡ header.next
     next_is header is = rw is refl

@@ -1,5 +1,5 @@
 -- Every edit upholds what is upheld, where what is owed of it is given.
-use Rattle.std.proofs.Common.{◌≡◌, ◌∙◌, ℕ, Bool, true, false, ◌==◌, ◌&&◌, ◌⊎◌, inl, inr, ◌∷◌, Option, Some, None, refl, sym, subst, arith}
+use Rattle.std.proofs.Common.{◌≡◌, ◌∙◌, ℕ, Bool, true, false, ◌==◌, ◌&&◌, ◌∷◌, Option, Some, None, refl, sym, subst, arith}
 use Rattle.std.specs.Prelude.{if◌then◌else◌}
 use Rattle.std.specs.Option.{option_map_or}
 use Rattle.std.proofs.Math.Path.{fun_ext}
@@ -26,16 +26,16 @@ use Rattle.fbc_world.specs.PageCell.{edited, page_for}
 use Rattle.fbc_world.specs.World.{World, is_number_of, mark_after_edit, newest_of, page_after, with_edit, world_of}
 use Rattle.fbc_legal.specs.Guards.{GuardOfEdit}
 use Rattle.fbc_legal.specs.Legal.{IsLegal}
-use Rattle.fbc_legal.specs.Scene.{HasDraft, IsBefore, scene_of}
+use Rattle.fbc_legal.specs.Scene.{scene_of}
 use Rattle.fbc_legal.specs.Stamps.{PageStamps, Stamps, stamps_of}
 use Rattle.fbc_legal.proofs.HeaderGrowth.{exclusive-own, newest-own}
 use Rattle.fbc_legal.proofs.Induction.{IsCoherent-legal}
 use Rattle.fbc_cut.specs.Cut.{Cut, IsClosedCut, view}
-use Rattle.fbc_cut.specs.Owed.{IsSeenKept, IsSeenNewest, IsTrueView, SeesEdit, commits_after, is_commit}
+use Rattle.fbc_cut.specs.Owed.{IsTrueView, KeepsTrueAfter, SeesEdit, commits_after, is_commit}
 use Rattle.fbc_cut.specs.Standing.{commits_in, machine_after, machine_of, settled_by}
 use Rattle.fbc_cut.specs.Upheld.{IsMarkDrafted, IsUpheld, MarksAreDrafted}
 use Rattle.fbc_cut.specs.Views.{IsSameView, IsViewOfEdit, drafted_in, view_stamps}
-use Rattle.fbc_cut.proofs.CutLaws.{edit-spares, edit-views, named_nowhere-unreached, takes}
+use Rattle.fbc_cut.proofs.CutLaws.{edit-sees, edit-spares, edit-views}
 use Rattle.fbc_cut.proofs.HeadersGrow.{headers-grow}
 use Rattle.fbc_cut.proofs.MarksKept.{marks-acted}
 use Rattle.fbc_cut.proofs.Settled.{settled-same}
@@ -109,32 +109,13 @@ fits_of shape (edit.PutCell cell new) (Some before) content is = is
 fits_of shape (edit.ClearCell cell) (Some before) content is = is
 fits_of shape _ None content is = absurd cc
 
-newest_fits : (shape : Shape) (file : View) (before : History) (owner page : ℕ) (e : Edit) (content : Page) → IsLegal shape file before
+pub newest_fits : (shape : Shape) (file : View) (before : History) (owner page : ℕ) (e : Edit) (content : Page) → IsLegal shape file before
     → (world_of shape file before).granted owner (page_resource page) ≡ Ex → page_after shape (world_of shape file before) owner page e ≡ Some content
     → Fits shape e (newest_of (world_of shape file before) page) content
 newest_fits shape file before owner page e content legal exclusive is =
     let w : World = world_of shape file before in
     let own : newest_of w page ≡ page_for owner (w.kept page) (w.draft page) = newest-own owner (w.kept page) (w.draft page) (exclusive-own w (IsCoherent-legal shape file before legal) owner page exclusive) in
     fits_of shape e (newest_of w page) content (rw own is)
-
--- what is owed of an edit after one history
-abbrev pub KeepsTrueAfter : Shape → View → History → Edit → Type 0
-KeepsTrueAfter shape file past e =
-    (owner page : ℕ) (content : Page) (seen : View) (stamps : ℕ → Stamps) (commits : ℕ → Bool)
-    → IsLegal shape file past
-    → IsUpheld (scene_of shape file past)
-    → (world_of shape file past).is_alive owner ≡ true
-    → GuardOfEdit (scene_of shape file past) owner page e
-    → page_after shape (world_of shape file past) owner page e ≡ Some content
-    → SeesEdit (scene_of shape file past) owner page seen stamps
-    → IsOfShape shape seen
-    → Fits shape e (seen page) content
-    → commits owner ≡ false
-    → IsTrueView (machine_of shape file past) commits seen
-    → IsTrueView
-    (machine_after (machine_of shape file past) (commands_at shape (world_of shape file past) owner (Local (local.Edit page e)) false))
-    (commits_after (world_of shape file past) owner e commits)
-    (with_page seen page content)
 
 module _ (shape : Shape) (file : View) (before : History) (owner page : ℕ) (e : Edit) (landed : Bool) (legal : IsLegal shape file (happens owner (Local (local.Edit page e)) landed ∷ before)) (u : IsUpheld (scene_of shape file before))
     (owed : KeepsTrueAfter shape file before e) (content : Page) (is : page_after shape (world_of shape file before) owner page e ≡ Some content) where
@@ -204,26 +185,8 @@ module _ (shape : Shape) (file : View) (before : History) (owner page : ℕ) (e 
       changed : IsViewOfEdit w s after (stamps_of shape file (edits ∷ before)) page content cut
       changed = edit-views shape file before owner page e landed content cut is closed in_cut
 
-      one_of : (other : ℕ) (b : Bool) → drafted_in w cut other ≡ b → IsSeenNewest (scene_of shape file before) other (seen other) (seen_stamps other) ⊎ IsSeenKept (scene_of shape file before) other (seen other) (seen_stamps other)
-      one_of other true at = inl (record { page = rw at refl; stamps = rw at refl })
-      one_of other false at = inr (record { page = rw at refl; stamps = rw at refl })
-
-      newest_before : (other : ℕ) → HasDraft (scene_of shape file before) owner other → IsBefore (scene_of shape file before) other page → IsSeenNewest (scene_of shape file before) other (seen other) (seen_stamps other)
-      newest_before other own path =
-          let at : drafted_in w cut other ≡ true = rw ((takes shape file before owner page e landed content cut is closed in_cut).before_in other own path, draft_there owner (w.draft other) own) refl in
-          record { page = rw at refl; stamps = rw at refl }
-
       sees : SeesEdit (scene_of shape file before) owner page seen seen_stamps
-      sees = record {
-        cut = drafted_in w cut;
-        closed = changed.closed;
-        pages = λ other. refl;
-        origins = λ other. refl;
-        edited_page = record { page = changed.was; stamps = changed.stamps_were };
-        before = newest_before;
-        each = λ other. one_of other (drafted_in w cut other) refl;
-        unreached = λ other nowhere apart none. named_nowhere-unreached shape file before owner page e landed content cut is other legal.0 closed in_cut nowhere apart none;
-      }
+      sees = edit-sees shape file before owner page e landed content cut is legal.0 closed in_cut
 
       of_shape : IsOfShape shape seen
       of_shape = u.of_shape (drafted_in w cut) changed.closed
@@ -233,8 +196,18 @@ module _ (shape : Shape) (file : View) (before : History) (owner page : ℕ) (e 
 
       true_now : IsTrueView (machine_after (machine_of shape file before) (commands_at shape w owner (Local (local.Edit page e)) landed)) (commits_after w owner e commits) (with_page seen page content)
       true_now =
-          owed owner page content seen seen_stamps commits legal.0 u legal.1.alive g is sees of_shape fits (none_before w u.marks owner page e content g.unmarked cut)
-          (record { sound = u.sound (drafted_in w cut) changed.closed; means = u.means (drafted_in w cut) changed.closed })
+          owed owner page content seen seen_stamps commits (record {
+            legal = legal.0;
+            upheld = u;
+            alive = legal.1.alive;
+            guard = g;
+            made = is;
+            sees = sees;
+            of_shape = of_shape;
+            fits = fits;
+            none = (none_before w u.marks owner page e content g.unmarked cut);
+            was_true = record { sound = u.sound (drafted_in w cut) changed.closed; means = u.means (drafted_in w cut) changed.closed };
+          })
 
       one_view : with_page seen page content ≡ view after cut
       one_view = sym (fun_ext (λ p. changed.pages p))

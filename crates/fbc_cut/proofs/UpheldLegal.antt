@@ -24,12 +24,12 @@ use Rattle.fbc_legal.specs.Legal.{IsLegal}
 use Rattle.fbc_legal.specs.Scene.{scene_of}
 use Rattle.fbc_legal.proofs.Induction.{IsCoherent-legal}
 use Rattle.fbc_cut.specs.Cut.{Cut, view}
-use Rattle.fbc_cut.specs.Owed.{KeepsViewsTrue}
+use Rattle.fbc_cut.specs.Owed.{KeepsTrueAfter, KeepsViewsTrue}
 use Rattle.fbc_cut.specs.Standing.{commits_in, ended_by, settled_by}
-use Rattle.fbc_cut.specs.Upheld.{IsUpheld}
+use Rattle.fbc_cut.specs.Upheld.{IsUpheld, IsUpheldThroughout}
 use Rattle.fbc_cut.proofs.HeadersGrow.{headers-grow}
 use Rattle.fbc_cut.proofs.UpheldActs.{acts-uphold}
-use Rattle.fbc_cut.proofs.UpheldEdits.{KeepsTrueAfter, edits-uphold}
+use Rattle.fbc_cut.proofs.UpheldEdits.{edits-uphold}
 
 -- a machine means the same as itself
 pub mean-self : (a : Machine) → MeanTheSame a a
@@ -83,25 +83,35 @@ module _ (shape : Shape) (file : View) (of_shape : IsOfShape shape file) (sound 
   }
 
 -- each event upholds what is upheld, where what is owed of edits after the history before it is given
+-- one edit upholds what is upheld, where it keeps views true after the history
+pub edit-upholds : (shape : Shape) (file : View) (before : History) (owner page : ℕ) (e : Edit) (landed : Bool) → IsLegal shape file (happens owner (Local (local.Edit page e)) landed ∷ before)
+    → IsUpheld (scene_of shape file before) → KeepsTrueAfter shape file before e → IsUpheld (scene_of shape file (happens owner (Local (local.Edit page e)) landed ∷ before))
+edit-upholds shape file before owner page e landed legal u owed = go (page_after shape (world_of shape file before) owner page e) refl (fits legal.1.guard) where
+  fits : GuardOfEdit (scene_of shape file before) owner page e → is_some (page_after shape (world_of shape file before) owner page e) ≡ true
+  fits g = g.fits
+
+  go : (after : Option Page) → page_after shape (world_of shape file before) owner page e ≡ after → is_some after ≡ true → IsUpheld (scene_of shape file (happens owner (Local (local.Edit page e)) landed ∷ before))
+  go None is fits' = absurd cc
+  go (Some content) is fits' = edits-uphold shape file before owner page e landed legal u owed content is
+
 module _ (shape : Shape) (file : View) (before : History) (owed : (edit : Edit) → KeepsTrueAfter shape file before edit) (u : IsUpheld (scene_of shape file before)) (owner : ℕ) (landed : Bool) where
   abbrev Upholds : Act → Type 0
   Upholds act = IsLegal shape file (happens owner act landed ∷ before) → IsUpheld (scene_of shape file (happens owner act landed ∷ before))
 
-  edit-upholds : (page : ℕ) (e : Edit) (after : Option Page) → page_after shape (world_of shape file before) owner page e ≡ after → is_some after ≡ true → Upholds (Local (local.Edit page e))
-  edit-upholds page e None is fits legal = absurd cc
-  edit-upholds page e (Some content) is fits legal = edits-uphold shape file before owner page e landed legal u (owed e) content is
-
   pub event-upholds : (act : Act) → Upholds act
-  event-upholds (Local (local.Edit page e)) legal = edit-upholds page e (page_after shape (world_of shape file before) owner page e) refl (fits legal.1.guard) legal where
-    fits : GuardOfEdit (scene_of shape file before) owner page e → is_some (page_after shape (world_of shape file before) owner page e) ≡ true
-    fits g = g.fits
+  event-upholds (Local (local.Edit page e)) legal = edit-upholds shape file before owner page e landed legal u (owed e)
   event-upholds (Local (local.Before high low)) legal = acts-uphold shape file before (happens owner (Local (local.Before high low)) landed) legal u refl
   event-upholds (Local (local.Pin page)) legal = acts-uphold shape file before (happens owner (Local (local.Pin page)) landed) legal u refl
   event-upholds (Local (local.Unpin page)) legal = acts-uphold shape file before (happens owner (Local (local.Unpin page)) landed) legal u refl
   event-upholds act legal = acts-uphold shape file before (happens owner act landed) legal u refl
 
+pub upheld-now : (shape : Shape) (file : View) (history : History) → IsUpheldThroughout shape file history → IsUpheld (scene_of shape file history)
+upheld-now shape file [] upheld = upheld
+upheld-now shape file (moment ∷ before) upheld = upheld.0
+
 module _ (shape : Shape) (file : View) (of_shape : IsOfShape shape file) (sound : IsSound file) (owed : (edit : Edit) → KeepsViewsTrue shape file edit) where
-  pub legal-upheld : (history : History) → IsLegal shape file history → IsUpheld (scene_of shape file history)
+  pub legal-upheld : (history : History) → IsLegal shape file history → IsUpheldThroughout shape file history
   legal-upheld [] legal = first-upheld shape file of_shape sound
   legal-upheld (moment ∷ before) legal =
-      event-upholds shape file before (λ edit. owed edit before) (legal-upheld before legal.0) moment.event.actor moment.landed moment.event.act legal
+      let earlier = legal-upheld before legal.0 in
+      (event-upholds shape file before (λ edit. owed edit before earlier) (upheld-now shape file before earlier) moment.event.actor moment.landed moment.event.act legal, earlier)

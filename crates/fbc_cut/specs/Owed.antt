@@ -26,7 +26,7 @@ use Rattle.fbc_legal.specs.Scene.{Scene, HasDraft, IsBefore, newest_at, scene_of
 use Rattle.fbc_legal.specs.Stamps.{Stamps, newest_stamps}
 use Rattle.fbc_cut.specs.Cut.{Cut, IsClosedCut, view}
 use Rattle.fbc_cut.specs.Standing.{machine_after, machine_of, settled_by}
-use Rattle.fbc_cut.specs.Upheld.{IsUpheld}
+use Rattle.fbc_cut.specs.Upheld.{IsUpheld, IsUpheldThroughout}
 use Rattle.fbc_cut.specs.Views.{view_stamps}
 
 -- A view shows a page as the newest pages do, or as the file keeps it.
@@ -65,22 +65,30 @@ pub record IsTrueView (machine : Machine) (commits : ℕ → Bool) (seen : View)
   pub sound : IsSound seen
   pub means : MeanTheSame (meaning_of seen) (settled_by commits machine)
 
--- What is owed of an edit: after any upheld history, it makes of each view that sees it, and is true, one that is true of the
--- machine after the edit.
-abbrev pub KeepsViewsTrue : Shape → View → Edit → Type 0
-KeepsViewsTrue shape file edit =
-    (past : History) (owner page : ℕ) (content : Page) (seen : View) (stamps : ℕ → Stamps) (commits : ℕ → Bool)
-    → IsLegal shape file past
-    → IsUpheld (scene_of shape file past)
-    → (world_of shape file past).is_alive owner ≡ true
-    → GuardOfEdit (scene_of shape file past) owner page edit
-    → page_after shape (world_of shape file past) owner page edit ≡ Some content
-    → SeesEdit (scene_of shape file past) owner page seen stamps
-    → IsOfShape shape seen
-    → Fits shape edit (seen page) content
-    → commits owner ≡ false
-    → IsTrueView (machine_of shape file past) commits seen
+-- After an upheld history a living owner's edit may come, and makes this content of the page. The view sees the edit, and is
+-- true of the machine where these commits are done; the owner has none.
+pub record IsSeenEdit (shape : Shape) (file : View) (past : History) (owner page : ℕ) (edit : Edit) (content : Page) (seen : View) (stamps : ℕ → Stamps) (commits : ℕ → Bool) : Type 0 where
+  pub legal : IsLegal shape file past
+  pub upheld : IsUpheld (scene_of shape file past)
+  pub alive : (world_of shape file past).is_alive owner ≡ true
+  pub guard : GuardOfEdit (scene_of shape file past) owner page edit
+  pub made : page_after shape (world_of shape file past) owner page edit ≡ Some content
+  pub sees : SeesEdit (scene_of shape file past) owner page seen stamps
+  pub of_shape : IsOfShape shape seen
+  pub fits : Fits shape edit (seen page) content
+  pub none : commits owner ≡ false
+  pub was_true : IsTrueView (machine_of shape file past) commits seen
+
+-- After this history the edit makes of each view that sees it one that is true of the machine after the edit.
+abbrev pub KeepsTrueAfter : Shape → View → History → Edit → Type 0
+KeepsTrueAfter shape file past edit =
+    (owner page : ℕ) (content : Page) (seen : View) (stamps : ℕ → Stamps) (commits : ℕ → Bool)
+    → IsSeenEdit shape file past owner page edit content seen stamps commits
     → IsTrueView
     (machine_after (machine_of shape file past) (commands_at shape (world_of shape file past) owner (Local (local.Edit page edit)) false))
     (commits_after (world_of shape file past) owner edit commits)
     (with_page seen page content)
+
+-- What is owed of an edit: it does so after each history that is upheld at each of its moments.
+abbrev pub KeepsViewsTrue : Shape → View → Edit → Type 0
+KeepsViewsTrue shape file edit = (past : History) → IsUpheldThroughout shape file past → KeepsTrueAfter shape file past edit

@@ -1,9 +1,9 @@
 //! The invariant of legal histories. None of these functions does anything.
 
-ghost use Rattle.fbc_cut.specs.Owed.{KeepsViewsTrue};
-ghost use Rattle.fbc_cut.specs.Upheld.{IsUpheld};
+ghost use Rattle.fbc_cut.specs.Owed.{KeepsTrueAfter, KeepsViewsTrue};
+ghost use Rattle.fbc_cut.specs.Upheld.{IsUpheld, IsUpheldThroughout};
 ghost use Rattle.fbc_cut.specs.Views.{is_edit};
-ghost use Rattle.std.specs.Prelude.{◌≡◌, ◌∷◌, [], false};
+ghost use Rattle.std.specs.Prelude.{◌≡◌, ◌∷◌, [], ℕ, Bool, false};
 ghost use Rattle.fbc_kinds.specs.Sound.{IsSound};
 ghost use Rattle.fbc_kinds.specs.View.{View};
 ghost use Rattle.fbc_kinds.specs.declared.edits.Edit.{Edit};
@@ -11,7 +11,9 @@ ghost use Rattle.fbc_kinds.specs.declared.shapes.Shape.{Shape};
 ghost use Rattle.fbc_legal.specs.Legal.{IsLegal};
 ghost use Rattle.fbc_legal.specs.Scene.{scene_of};
 ghost use Rattle.fbc_views.specs.Edited.{IsOfShape};
-ghost use Rattle.fbc_world.specs.History.{History, Moment};
+ghost use Rattle.fbc_world.specs.History.{History, Moment, happens};
+ghost use Rattle.fbc_world.specs.declared.events.Act.TheVariants.{Local};
+ghost use Rattle.fbc_world.specs.declared.events.LocalEvent.TheVariants as local;
 
 /// Over a sound file the empty history is upheld.
 pub fn first_views_are_upheld()
@@ -25,8 +27,16 @@ pub fn acts_uphold_what_is_upheld()
         → IsUpheld (scene_of shape file before) → IsUpheld (scene_of shape file (moment ∷ before)) }
 {}
 
-/// Every legal history over a sound file is upheld, if every edit keeps views true.
+/// A legal edit upholds what is upheld, if it keeps views true after the history before it.
+pub fn edits_uphold_what_is_upheld()
+    ensures { (shape : Shape) (file : View) (before : History) (owner page : ℕ) (edit : Edit) (landed : Bool) → IsLegal shape file (happens owner (Local (local.Edit page edit)) landed ∷ before)
+        → IsUpheld (scene_of shape file before) → KeepsTrueAfter shape file before edit
+        → IsUpheld (scene_of shape file (happens owner (Local (local.Edit page edit)) landed ∷ before)) }
+{}
+
+/// Every legal history over a sound file is upheld at each of its moments, if every edit keeps views
+/// true after histories that are.
 pub fn legal_histories_are_upheld()
     ensures { (shape : Shape) (file : View) (history : History) → IsOfShape shape file → IsSound file → ((edit : Edit) → KeepsViewsTrue shape file edit)
-        → IsLegal shape file history → IsUpheld (scene_of shape file history) }
+        → IsLegal shape file history → IsUpheldThroughout shape file history }
 {}

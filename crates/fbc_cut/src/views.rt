@@ -4,6 +4,7 @@
 ghost use Rattle.std.specs.Prelude.{◌≡◌, ◌≢◌, ◌∷◌, [], ℕ, Bool, Option, Some, false, true};
 ghost use Rattle.fbc_cut.specs.Cut.{Cut, IsClosedCut, view};
 ghost use Rattle.fbc_cut.specs.Growth.{GrowsInto};
+ghost use Rattle.fbc_cut.specs.Owed.{SeesEdit};
 ghost use Rattle.fbc_cut.specs.Views.{IsSameView, IsViewOfEdit, cut_before, drafted_in, is_edit, view_stamps};
 ghost use Rattle.fbc_kinds.specs.Reach.{ReachesPage};
 ghost use Rattle.fbc_kinds.specs.View.{View};
@@ -45,6 +46,15 @@ pub fn edits_change_views_by_their_page()
         → page_after shape (world_of shape file before) owner page edit ≡ Some content
         → IsClosedCut (world_of shape file (happens owner (Local (local.Edit page edit)) landed ∷ before)) cut → cut page ≡ true
         → IsViewOfEdit (world_of shape file before) (stamps_of shape file before) (world_of shape file (happens owner (Local (local.Edit page edit)) landed ∷ before)) (stamps_of shape file (happens owner (Local (local.Edit page edit)) landed ∷ before)) page content cut }
+{}
+
+/// Each view that comes to hold an edited page sees the edit: it shows the page, and what is to be
+/// written before it, as the newest pages do, and reaches no page that the edit wants named nowhere.
+pub fn views_see_edits()
+    ensures { (shape : Shape) (file : View) (before : History) (owner page : ℕ) (edit : Edit) (landed : Bool) (content : Page) (cut : Cut)
+        → IsLegal shape file before → page_after shape (world_of shape file before) owner page edit ≡ Some content
+        → IsClosedCut (world_of shape file (happens owner (Local (local.Edit page edit)) landed ∷ before)) cut → cut page ≡ true
+        → SeesEdit (scene_of shape file before) owner page (view (world_of shape file before) (drafted_in (world_of shape file before) cut)) (view_stamps (world_of shape file before) (stamps_of shape file before) (drafted_in (world_of shape file before) cut)) }
 {}
 
 /// What an edit leans on, as a test of a page's content and stamps, is shown in each view that comes

@@ -8,6 +8,8 @@ use Rattle.fbc_kinds.specs.declared.pages.Cell.{Cell}
 use Rattle.fbc_kinds.specs.declared.pages.Page.{Page}
 use Rattle.fbc_kinds.specs.declared.pages.Page.TheVariants as kind
 use Rattle.fbc_kinds.specs.declared.pages.State.{State}
+use Rattle.fbc_kinds.specs.declared.shapes.Shape.{Shape}
+use Rattle.fbc_kinds.specs.View.{View}
 use Rattle.fbc_kinds.specs.declared.pages.State.TheVariants as state
 use Rattle.fbc_kinds.specs.declared.pages.State.TheVariants.{Active, Committed, Limbo}
 use Rattle.fbc_kinds.specs.DataSpelling.{IsCell, IsVersion, empty_cell}
@@ -15,8 +17,12 @@ use Rattle.fbc_kinds.specs.Edits.{IsWithinLimits}
 use Rattle.fbc_kinds.specs.File.{stands_under}
 use Rattle.fbc_kinds.specs.HeaderSpelling.{IsHeader, IsRelation}
 use Rattle.fbc_kinds.specs.Limits.{number_limit}
-use Rattle.fbc_examples.specs.Files.{HasWholePages, data_file, data_page, deletion, empty_file, first_cells, header, header_page, inventory_page, new_file, old_value, over, pointer_page, relation, row_file, small_shape, tip_page, value, worn_cells, worn_file}
+use Rattle.fbc_examples.specs.Files.{data_file, data_page, deletion, empty_file, first_cells, header, header_page, inventory_page, new_file, old_value, over, pointer_page, relation, row_file, small_shape, tip_page, value, worn_cells, worn_file}
 use Rattle.fbc_examples.proofs.SmallViews.{one_relation, passes_at}
+
+-- each page of a file is within its limits, and stands under its own number
+abbrev pub HasWholePages : Shape → View → Type 0
+HasWholePages shape file = (number : ℕ) (content : Page) → file number ≡ Some content → IsWithinLimits shape content × (stands_under number content ≡ true)
 
 first_place : (i : ℕ) → i < 1 → i ≡ 0
 first_place i below = omega arith

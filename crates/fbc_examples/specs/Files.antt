@@ -10,9 +10,9 @@ use Rattle.fbc_kinds.specs.declared.pages.State.{State}
 use Rattle.fbc_kinds.specs.declared.pages.State.TheVariants.{Active, Committed}
 use Rattle.fbc_kinds.specs.declared.shapes.Shape.{Shape}
 use Rattle.fbc_kinds.specs.DataSpelling.{empty_cell}
-use Rattle.fbc_kinds.specs.Edits.{IsShape, IsWithinLimits}
 use Rattle.fbc_kinds.specs.File.{stands_under}
 use Rattle.fbc_kinds.specs.Sound.{IsSound}
+use Rattle.fbc_views.specs.Edited.{IsOfShape}
 use Rattle.fbc_kinds.specs.View.{View}
 
 -- A file of one relation, whose values have at most 10 bytes.
@@ -95,12 +95,13 @@ worn_cells = first_cells (over 1 (value 3 67) ∷ over 2 (old_value 2 66) ∷ ol
 abbrev pub worn_file : View
 worn_file = data_file 5 (Active ∷ Committed ∷ Committed ∷ Committed ∷ []) worn_cells
 
--- Each page of a file is within its limits, and stands under its own number.
-abbrev pub HasWholePages : Shape → View → Type 0
-HasWholePages shape file = (number : ℕ) (content : Page) → file number ≡ Some content → IsWithinLimits shape content × (stands_under number content ≡ true)
+-- Each page of a file stands under its own number.
+abbrev pub HasOwnNumbers : View → Type 0
+HasOwnNumbers file = (number : ℕ) (content : Page) → file number ≡ Some content → stands_under number content ≡ true
 
--- A file over which an example may begin: it is sound, its pages are whole, and it has a shape that a file may have.
+-- A file over which an example may begin: its pages are such as a file of the shape has, stand under their own numbers, and are
+-- sound.
 pub record IsStart (shape : Shape) (file : View) : Type 0 where
-  pub is_shape : IsShape shape
+  pub of_shape : IsOfShape shape file
+  pub own : HasOwnNumbers file
   pub sound : IsSound file
-  pub whole : HasWholePages shape file

@@ -12,9 +12,9 @@ use Rattle.fbc_examples.specs.Owners.{with_draft, with_waiter}
 use Rattle.fbc_examples.specs.Rows.{with_changed_row, with_pages}
 use Rattle.fbc_examples.specs.Steps.{asks, begins, does, edits, gets, holds, with_owner, writes}
 
--- The transaction is marked as committed before the data page is written.
+-- The header is written, and then the transaction is marked as committed, before the data page is written.
 abbrev pub with_early_mark : History
-with_early_mark = edits 2 (Mark 1 Committed) with_changed_row
+with_early_mark = edits 2 (Mark 1 Committed) (writes 0 with_changed_row)
 
 -- The data page is written before the header, which is to be written before it.
 abbrev pub with_early_write : History

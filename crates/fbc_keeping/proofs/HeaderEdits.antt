@@ -21,7 +21,8 @@ use Rattle.fbc_legal.specs.Facts.{IsInventory}
 use Rattle.fbc_legal.specs.Leans.{InventoryLeans, PointerLeans, TipLeans}
 use Rattle.fbc_legal.specs.Scene.{Scene, newest_at, scene_of}
 use Rattle.fbc_legal.specs.Stamps.{Stamps}
-use Rattle.fbc_keeping.specs.Seen.{IsKept, IsSeenEdit}
+use Rattle.fbc_cut.specs.Owed.{IsSeenEdit}
+use Rattle.fbc_keeping.specs.Seen.{IsKept}
 use Rattle.fbc_keeping.proofs.Kept.{kept_alike, kept_off}
 use Rattle.fbc_keeping.proofs.Ready.{ready_seen}
 use Rattle.fbc_keeping.proofs.Shown.{shown}

@@ -5,4 +5,3 @@ pub mod StaysTrue
 pub mod HeaderEdits
 pub mod NextNumbers
 pub mod PageEdits
-pub mod UpheldThroughout

@@ -25,11 +25,12 @@ use Rattle.fbc_views.proofs.SameMeaning.{transactions_same}
 use Rattle.fbc_world.specs.History.{History}
 use Rattle.fbc_legal.specs.Scene.{Scene, newest_at, scene_of}
 use Rattle.fbc_legal.specs.Stamps.{Stamps}
-use Rattle.fbc_keeping.specs.Seen.{IsKept, IsSeenEdit}
+use Rattle.fbc_cut.specs.Owed.{IsSeenEdit}
+use Rattle.fbc_keeping.specs.Seen.{IsKept}
 use Rattle.fbc_keeping.proofs.Kept.{kept_off}
 
 -- of a file nothing is open
-settled_closed : (view : View) (number : ℕ) → is_open (settled view number).standing ≡ false
+pub settled_closed : (view : View) (number : ℕ) → is_open (settled view number).standing ≡ false
 settled_closed view number = go (is_committed_state (state_of view number)) where
   go : (b : Bool) → is_open (if b then standing.Committed else standing.RolledBack) ≡ false
   go true = refl

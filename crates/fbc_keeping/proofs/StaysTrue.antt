@@ -15,12 +15,11 @@ use Rattle.fbc_world.specs.declared.events.Act.TheVariants.{Local}
 use Rattle.fbc_world.specs.declared.events.LocalEvent.TheVariants as local
 use Rattle.fbc_world.specs.PageCell.{page_for}
 use Rattle.fbc_world.specs.World.{World, world_of}
-use Rattle.fbc_cut.specs.Owed.{IsTrueView, KeepsViewsTrue, commits_after, is_commit}
+use Rattle.fbc_cut.specs.Owed.{IsSeenEdit, IsTrueView, KeepsViewsTrue, commits_after, is_commit}
 use Rattle.fbc_cut.specs.Standing.{machine_after, machine_of, settled_by}
 use Rattle.fbc_cut.proofs.Settled.{settled-same}
 use Rattle.fbc_cut.proofs.SettledEdits.{edit-means}
-use Rattle.fbc_keeping.specs.Seen.{CommitsNothing, IsKept, IsSeenEdit, KeepsViews}
-use Rattle.fbc_keeping.specs.Throughout.{KeepsViewsThroughout, KeepsViewsTrueThroughout}
+use Rattle.fbc_keeping.specs.Seen.{CommitsNothing, IsKept, KeepsViews}
 
 same_commits : (w : World) (owner : ℕ) (e : Edit) (commits : ℕ → Bool) → is_commit e (w.transaction owner) ≡ false → commits owner ≡ false → (other : ℕ) → commits_after w owner e commits other ≡ commits other
 same_commits w owner e commits plain none other = go (other == owner) refl where
@@ -51,21 +50,5 @@ module _ (shape : Shape) (file : View) (e : Edit) (plain : CommitsNothing e) (pa
   }
 
 pub kept_true : (shape : Shape) (file : View) (e : Edit) → CommitsNothing e → KeepsViews shape file e → KeepsViewsTrue shape file e
-kept_true shape file e plain keeps past owner page content seen stamps commits legal upheld alive guard made sees of_shape fits none was_true =
-    let is : IsSeenEdit shape file past owner page e content seen stamps commits = record {
-      legal = legal;
-      upheld = upheld;
-      alive = alive;
-      guard = guard;
-      made = made;
-      sees = sees;
-      of_shape = of_shape;
-      fits = fits;
-      none = none;
-      was_true = was_true;
-    } in
-    stays_true shape file e plain past owner page content seen stamps commits is (keeps past owner page content seen stamps commits is)
-
-pub kept_true-throughout : (shape : Shape) (file : View) (e : Edit) → CommitsNothing e → KeepsViewsThroughout shape file e → KeepsViewsTrueThroughout shape file e
-kept_true-throughout shape file e plain keeps past owner page content seen stamps commits upheld is =
+kept_true shape file e plain keeps past upheld owner page content seen stamps commits is =
     stays_true shape file e plain past owner page content seen stamps commits is (keeps past owner page content seen stamps commits upheld is)

@@ -6,7 +6,6 @@ mod headers;
 mod inventories;
 mod namings;
 mod seen;
-mod throughout;
 
 pub use headers::{
     add_inventory_keeps_views_true, add_pointer_keeps_views_true, add_tip_keeps_views_true,
@@ -17,4 +16,3 @@ pub use inventories::{
 };
 pub use namings::{name_keeps_views_true, unname_keeps_views_true};
 pub use seen::kept_views_stay_true;
-pub use throughout::{legal_histories_are_upheld_throughout, owed_edits_are_owed_throughout};

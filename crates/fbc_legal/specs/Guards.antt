@@ -196,10 +196,14 @@ pub record GuardOfNumberLowering (at : Scene) (owner number : ℕ) : Type 0 wher
   pub over : (t : Transaction) → HasOpen at owner t → t.number ≢ number
   pub written : at.world.granted owner (number_resource number) ≡ Ex → ¬ IsUnwritten at.past owner number
 
+-- Lower of a relation: the owner has no open transaction.
+abbrev pub GuardOfRelationLowering : Scene → ℕ → Type 0
+GuardOfRelationLowering at owner = at.world.transaction owner ≡ None
+
 abbrev pub GuardOfSeriesLowering : Scene → ℕ → Series → ℕ → Level → Type 0
 GuardOfSeriesLowering at owner series.Page key level = GuardOfPageLowering at owner key level
 GuardOfSeriesLowering at owner series.Transaction key level = GuardOfNumberLowering at owner key
-GuardOfSeriesLowering at owner series.Relation key level = at.world.transaction owner ≡ None
+GuardOfSeriesLowering at owner series.Relation key level = GuardOfRelationLowering at owner
 
 -- Lower: what is left is a part of what was granted.
 pub record GuardOfLower (at : Scene) (owner : ℕ) (resource : Resource) (level : Level) : Type 0 where

@@ -189,13 +189,21 @@ pub record IsFormat (at : Scene) (owner page page_kind : ℕ) : Type 0 where
 abbrev pub IsNext : Scene → ℕ → ℕ → Type 0
 IsNext at owner next = (t : Transaction) × HasOpen at owner t × (t.number ≡ next_of (newest_at at)) × (next ≡ suc t.number)
 
+-- A page is taken that is free.
+abbrev pub IsTaking : Scene → ℕ → ℕ → Type 0
+IsTaking at page number = mark_in (newest_at at page) (number % inventory_bits at.shape.size) ≡ Some false
+
+-- A slot is filled that names no page.
+abbrev pub IsNaming : Scene → ℕ → ℕ → Type 0
+IsNaming at page slot = slot_in (newest_at at page) slot ≡ Some 0
+
 -- What each edit of a page by the owner may be.
 abbrev pub IsEditOfRow : Scene → ℕ → ℕ → Edit → Type 0
 IsEditOfRow at owner page (edit.SetNext next) = IsNext at owner next
-IsEditOfRow at owner page (edit.TakePage number) = mark_in (newest_at at page) (number % inventory_bits at.shape.size) ≡ Some false
+IsEditOfRow at owner page (edit.TakePage number) = IsTaking at page number
 IsEditOfRow at owner page (edit.FreePage number) = IsFreeing at owner number
 IsEditOfRow at owner page (edit.Mark number state) = IsMark at owner page number state
-IsEditOfRow at owner page (edit.Name slot number) = slot_in (newest_at at page) slot ≡ Some 0
+IsEditOfRow at owner page (edit.Name slot number) = IsNaming at page slot
 IsEditOfRow at owner page (edit.PutCell cell content) = IsPut at owner page cell content
 IsEditOfRow at owner page (edit.ClearCell cell) = IsClearing at page cell
 IsEditOfRow at owner page (edit.Format page_kind number relation sequence) = IsFormat at owner page page_kind

@@ -1,13 +1,15 @@
 //! Laws of legal histories. They do nothing when they are run.
 
-ghost use Rattle.std.specs.Prelude.{◌≡◌, ◌∷◌, ℕ, Bool, Some};
-ghost use Rattle.fbc_kinds.specs.View.{View, pointer_of};
-ghost use Rattle.fbc_kinds.specs.declared.edits.Edit.TheVariants.{FreePage};
+ghost use Rattle.std.specs.Prelude.{◌≡◌, ◌≢◌, ◌∷◌, ℕ, Bool, Some, true};
+ghost use Rattle.std.specs.Option.{IsSomeAnd};
+ghost use Rattle.fbc_kinds.specs.View.{View, cell_in, is_back, pointer_of};
+ghost use Rattle.fbc_kinds.specs.declared.edits.Edit.TheVariants.{FreePage, PutCell};
+ghost use Rattle.fbc_kinds.specs.declared.pages.Cell.{Cell};
 ghost use Rattle.fbc_kinds.specs.declared.shapes.Shape.{Shape};
 ghost use Rattle.fbc_legal.specs.Facts.{Names};
 ghost use Rattle.fbc_legal.specs.Legal.{IsLegal};
 ghost use Rattle.fbc_world.specs.History.{History, Moment, happens};
-ghost use Rattle.fbc_world.specs.PageCell.{draft, newest};
+ghost use Rattle.fbc_world.specs.PageCell.{draft, draft_owner, kept, newest};
 ghost use Rattle.fbc_world.specs.WriteOrder.{IsPair, StandsBefore};
 ghost use Rattle.fbc_world.specs.declared.asks.Cause.{Cause};
 ghost use Rattle.fbc_world.specs.declared.drafts.Draft.{Draft};
@@ -36,4 +38,13 @@ pub fn freed_pages_are_named_nowhere()
         → IsLegal shape file (happens owner (Local (local.Edit page (FreePage freed))) landed ∷ before)
         → pointer_of (newest shape file before) relation sequence ≡ Some pointer
         → ¬ Names (newest shape file before pointer) freed }
+{}
+
+/// A version is put that names a back version only where this one stands in the file already, in a
+/// page that is no draft of the owner, or in its draft that is to be written before.
+pub fn back_versions_come_first()
+    ensures { (shape : Shape) (file : View) (before : History) (owner page cell : ℕ) (content : Cell) (landed : Bool)
+        → IsLegal shape file (happens owner (Local (local.Edit page (PutCell cell content))) landed ∷ before)
+        → content.back_page ≢ 0 → content.back_page ≢ page → draft_owner shape file before content.back_page ≢ Some owner
+        → IsSomeAnd (cell_in (kept shape file before content.back_page) content.back_cell) (λ back. is_back back.flag ≡ true) }
 {}

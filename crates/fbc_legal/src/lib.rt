@@ -12,5 +12,7 @@ pub use coherence::{
     pairs_form_no_circle,
 };
 pub use frames::legal_acts_leave_the_living;
-pub use laws::{freed_pages_are_named_nowhere, legal_so_far, writes_come_in_order};
+pub use laws::{
+    back_versions_come_first, freed_pages_are_named_nowhere, legal_so_far, writes_come_in_order,
+};
 pub use page_waits::{page_waits_form_no_circle, pins_are_held, waits_go_upward};

@@ -7,8 +7,8 @@ use Rattle.fbc_kinds.specs.declared.pages.Page.TheVariants as kind
 use Rattle.fbc_kinds.specs.declared.shapes.Shape.{Shape}
 use Rattle.fbc_kinds.specs.View.{View}
 use Rattle.fbc_views.specs.Allowed.{Fits}
-use Rattle.fbc_rows.specs.Forms.{AllowsClear, AllowsPutOn, IsAdmittedEdit, backout, deleted as was_deleted, unreached}
-use Rattle.fbc_rows.specs.Puts.{IsAllowedClear, IsAllowedPut, IsClearIn, MayBeCleared, deleted, lone, unnamed}
+use Rattle.fbc_rows.specs.Forms.{AllowsPutOn, IsAdmittedEdit}
+use Rattle.fbc_rows.specs.Puts.{IsAllowedClear, IsAllowedPut, IsClearIn}
 
 pub put_allowed : (shape : Shape) (view : View) (number cell : ℕ) (new : Cell) (content : Page) → IsAdmittedEdit shape view number (PutCell cell new) content
     → IsAllowedPut shape view number cell new content
@@ -22,14 +22,9 @@ put_allowed shape view number cell new content is = go (view number) refl is.fit
     go None stands fits allowed = absurd fits
     go _ stands fits allowed = absurd allowed
 
-may_be_cleared : (view : View) (page cell : ℕ) → AllowsClear view page cell → MayBeCleared view page cell
-may_be_cleared view page cell (backout old stands top uncommitted alone) = lone (record { old = old; stands = stands; top = top; uncommitted = uncommitted; alone = alone })
-may_be_cleared view page cell (was_deleted old stands deletion committed) = deleted (record { old = old; stands = stands; deletion = deletion; committed = committed })
-may_be_cleared view page cell (unreached old stands value none) = unnamed (record { old = old; stands = stands; value = value; unnamed = none })
-
 -- a cell of a data page is cleared
 pub clear_allowed : (shape : Shape) (view : View) (number cell : ℕ) (content : Page) → IsAdmittedEdit shape view number (ClearCell cell) content → IsAllowedClear shape view number cell content
-clear_allowed shape view number cell content is = record { clear = go (view number) refl is.fits; allowed = may_be_cleared view number cell is.allowed }
+clear_allowed shape view number cell content is = record { clear = go (view number) refl is.fits; allowed = is.allowed }
   where
     go : (found : Option Page) → view number ≡ found → Fits shape (ClearCell cell) found content → IsClearIn shape view number cell content
     go (Some (kind.Data d)) stands fits = record { of_shape = is.of_shape; sound = is.sound; page = d; stands = stands; fits = fits }

@@ -19,25 +19,28 @@ abbrev pub IsSameOrCut : Version → List Version → List Version → Type 0
 IsSameOrCut version before after = (after ≡ before) ⊎ IsCutBelow version before after
 
 -- also under one more version
-under : (first version : Version) (before after : List Version) → IsSameOrCut version before after → IsSameOrCut version (first ∷ before) (first ∷ after)
-under first version before after (inl same) = inl (ap (λ rest. first ∷ rest) same)
-under first version before after (inr cut) = inr (record {
+pub under_cut : (first version : Version) (before after : List Version) → IsCutBelow version before after → IsCutBelow version (first ∷ before) (first ∷ after)
+under_cut first version before after cut = record {
   newer = first ∷ cut.newer;
   older = cut.older;
   whole = ap (λ rest. first ∷ rest) cut.whole;
   left = ap (λ rest. first ∷ rest) cut.left;
-})
+}
+
+under : (first version : Version) (before after : List Version) → IsSameOrCut version before after → IsSameOrCut version (first ∷ before) (first ∷ after)
+under first version before after (inl same) = inl (ap (λ rest. first ∷ rest) same)
+under first version before after (inr cut) = inr (under_cut first version before after cut)
 
 module _ {before after : View} {page cell : ℕ} {old new : Cell} (one : IsOneCell before after page cell old new) (alone : NamesNone new)
     (version_same : version_of new ≡ version_of old) where
   -- at the cell itself the chain ends
-  ends : (count : ℕ) → IsSameOrCut (version_of new) (versions_from before (suc count) (Some old)) (versions_from after (suc count) (Some new))
-  ends count = inr (record {
+  pub ends : (count : ℕ) → IsCutBelow (version_of new) (versions_from before (suc count) (Some old)) (versions_from after (suc count) (Some new))
+  ends count = record {
     newer = [];
     older = versions_from before count (below before old);
     whole = ap (λ v. v ∷ versions_from before count (below before old)) (sym version_same);
     left = ap (λ rest. version_of new ∷ rest) (ap (versions_from after count) (below_none after new (test_of_same new.back_page 0 alone)) ∙ no_versions after count);
-  })
+  }
 
   pub cut_from : (count other place : ℕ) → IsSameOrCut (version_of new) (versions_from before count (cell_at before other place)) (versions_from after count (cell_at after other place))
   cut_from zero other place = inl refl
@@ -54,7 +57,7 @@ module _ {before after : View} {page cell : ℕ} {old new : Cell} (one : IsOneCe
       go : IsPlace page cell other place ⊎ ¬ IsPlace page cell other place → (found : Option Cell) → cell_at before other place ≡ found
           → ((w : Cell) → IsSameOrCut (version_of new) (versions_from before count (cell_at before w.back_page w.back_cell)) (versions_from after count (cell_at after w.back_page w.back_cell)))
           → IsSameOrCut (version_of new) (versions_from before (suc count) (cell_at before other place)) (versions_from after (suc count) (cell_at after other place))
-      go (inl at) found is later = rw (old_stands one other place at, new_stands one other place at) (ends count)
+      go (inl at) found is later = rw (old_stands one other place at, new_stands one other place at) (inr (ends count))
       go (inr differ) None is later = inl (ap (versions_from after (suc count)) (one.others other place differ ∙ is) ∙ sym (ap (versions_from before (suc count)) is))
       go (inr differ) (Some w) is later =
           rw (one.others other place differ, is) (under (version_of w) (version_of new) _ _ (next w (w.back_page == 0) refl (later w)))

@@ -4,6 +4,7 @@ pub mod Chains
 pub mod Changes
 pub mod Coming
 pub mod CutChains
+pub mod CutThrough
 pub mod Division
 pub mod Finds
 pub mod Flags
@@ -19,6 +20,7 @@ pub mod NoNewLinks
 pub mod OneCell
 pub mod Over
 pub mod OwnChain
+pub mod RolledBackVersions
 pub mod RowsMeant
 pub mod SeenAlike
 pub mod Settled

@@ -1,10 +1,11 @@
 -- What an edit of one cell leaves as it was, and what it does to a chain.
-use Rattle.std.specs.Prelude.{◌≡◌, ℕ, List, [], ◌∷◌}
+use Rattle.std.specs.Prelude.{◌≡◌, ℕ, List, [], ◌∷◌, Some, true}
 use Rattle.fbc_kinds.specs.declared.pages.Cell.{Cell}
 use Rattle.fbc_kinds.specs.Chain.{Version}
 use Rattle.fbc_kinds.specs.Lost.{IsLostCell}
-use Rattle.fbc_kinds.specs.Reach.{LinksTo, Role, page_for}
-use Rattle.fbc_kinds.specs.View.{View, header_of}
+use Rattle.fbc_kinds.specs.Reach.{LinksTo, NamesBack, Role, page_for}
+use Rattle.fbc_kinds.specs.View.{View, cell_at, header_of, is_top}
+use Rattle.fbc_views.specs.Facing.{IsRowAt}
 
 -- One place is another.
 abbrev pub IsPlace : ℕ → ℕ → ℕ → ℕ → Type 0
@@ -28,6 +29,20 @@ KeepsLostCellsBut page cell before after = (other place : ℕ) → ¬ IsPlace pa
 pub record BeginsWith (version : Version) (versions : List Version) : Type 0 where
   pub older : List Version
   pub whole : versions ≡ version ∷ older
+
+-- A row's chain goes through a cell: the row's top stands there, or a version in another cell that the chain goes through
+-- names it as its back version's.
+pub data GoesThrough (view : View) (relation row : ℕ) : ℕ → ℕ → Type 0 where
+  begins : (page cell : ℕ) (version : Cell)
+      → IsRowAt view relation row page cell
+      → cell_at view page cell ≡ Some version
+      → is_top version.flag ≡ true
+      → GoesThrough view relation row page cell
+  goes_on : (page cell back_page back_cell : ℕ) (version : Cell)
+      → GoesThrough view relation row page cell
+      → cell_at view page cell ≡ Some version
+      → NamesBack version back_page back_cell
+      → GoesThrough view relation row back_page back_cell
 
 -- Only the newest version of a chain is another one.
 pub record HasOtherTop (old new : Version) (before after : List Version) : Type 0 where

@@ -26,6 +26,13 @@ pub record AllowsMark (view : View) (number : ℕ) (state : State) : Type 0 wher
 abbrev pub Stands : View → ℕ → ℕ → Cell → Type 0
 Stands view page cell version = cell_at view page cell ≡ Some version
 
+-- The number of a version is committed, or not.
+abbrev pub IsCommitted : View → Cell → Type 0
+IsCommitted view version = is_committed_state (state_of view version.number) ≡ true
+
+abbrev pub IsUncommitted : View → Cell → Type 0
+IsUncommitted view version = is_committed_state (state_of view version.number) ≡ false
+
 -- A version that names no back version, and one that names the same back version as another.
 abbrev pub NamesNone : Cell → Type 0
 NamesNone version = version.back_page ≡ 0
@@ -58,7 +65,7 @@ pub record IsOver (view : View) (relation page cell : ℕ) (new : Cell) : Type 0
   pub old : Cell
   pub stands : Stands view page cell old
   pub over : old.flag ≡ flag.Primary
-  pub committed : is_committed_state (state_of view old.number) ≡ true
+  pub committed : IsCommitted view old
   pub top : is_top new.flag ≡ true
   pub newer : old.number < new.number
   pub begun : new.number < next_of view
@@ -90,7 +97,7 @@ pub record IsBackout (view : View) (page cell : ℕ) (new : Cell) : Type 0 where
   pub old : Cell
   pub stands : Stands view page cell old
   pub over : is_top old.flag ≡ true
-  pub uncommitted : is_committed_state (state_of view old.number) ≡ false
+  pub uncommitted : IsUncommitted view old
   pub value : new.flag ≡ flag.Primary
   pub linked : (old.back_page == 0) ≡ false
   pub raised : (relation : ℕ) → LinksTo view relation page cell old old.back_page old.back_cell → IsRaised view new old.back_page old.back_cell
@@ -114,15 +121,33 @@ abbrev pub AllowsPutOn : View → ℕ → ℕ → Cell → Option Page → Type 
 AllowsPutOn view page cell new (Some (kind.Data d)) = AllowsPut view d.relation page cell new
 AllowsPutOn view page cell new _ = ⊥
 
--- What may be cleared: a top that is not committed and names no back version; a committed deletion; a back value that no
--- version that is reached names.
+-- The only version of a row stands there, and is not committed.
+pub record IsLoneVersion (view : View) (page cell : ℕ) : Type 0 where
+  pub old : Cell
+  pub stands : Stands view page cell old
+  pub top : is_top old.flag ≡ true
+  pub uncommitted : IsUncommitted view old
+  pub alone : NamesNone old
+
+-- The deletion of a row stands there, and is committed.
+pub record IsDeletedRow (view : View) (page cell : ℕ) : Type 0 where
+  pub old : Cell
+  pub stands : Stands view page cell old
+  pub deletion : old.flag ≡ flag.Deletion
+  pub committed : IsCommitted view old
+
+-- A back value stands there that no version which is reached names.
+pub record IsUnnamedValue (view : View) (page cell : ℕ) : Type 0 where
+  pub old : Cell
+  pub stands : Stands view page cell old
+  pub value : is_back old.flag ≡ true
+  pub unnamed : ¬ IsLinked view page cell
+
+-- What may be cleared: the only version of a row, a deletion, or a back value.
 pub data AllowsClear (view : View) (page cell : ℕ) : Type 0 where
-  backout : (old : Cell) → Stands view page cell old → is_top old.flag ≡ true → is_committed_state (state_of view old.number) ≡ false → NamesNone old
-      → AllowsClear view page cell
-  deleted : (old : Cell) → Stands view page cell old → old.flag ≡ flag.Deletion → is_committed_state (state_of view old.number) ≡ true
-      → AllowsClear view page cell
-  unreached : (old : Cell) → Stands view page cell old → is_back old.flag ≡ true → ¬ IsLinked view page cell
-      → AllowsClear view page cell
+  lone : IsLoneVersion view page cell → AllowsClear view page cell
+  deleted : IsDeletedRow view page cell → AllowsClear view page cell
+  unnamed : IsUnnamedValue view page cell → AllowsClear view page cell
 
 -- What the view shows where an edit of any kind may come.
 abbrev pub Admits : Shape → View → ℕ → Edit → Type 0

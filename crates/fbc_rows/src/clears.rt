@@ -11,7 +11,8 @@ ghost use Rattle.fbc_views.specs.Alike.{HasNoMoreLinks, HaveOtherChains, HaveSam
 ghost use Rattle.fbc_views.specs.Edited.{with_page};
 ghost use Rattle.fbc_views.specs.Facing.{IsRowAt};
 ghost use Rattle.fbc_rows.specs.Differences.{BeginsWith, KeepsLostCellsBut};
-ghost use Rattle.fbc_rows.specs.Puts.{IsClearIn, IsDeletedRow, IsLoneVersion, IsUnnamedValue};
+ghost use Rattle.fbc_rows.specs.Forms.{IsDeletedRow, IsLoneVersion, IsUnnamedValue};
+ghost use Rattle.fbc_rows.specs.Puts.{IsClearIn};
 
 /// The only version of a row is taken back.
 pub fn cleared_versions_keep_views()

@@ -1,6 +1,6 @@
 //! Versions that lose their links. None of these functions does anything.
 
-ghost use Rattle.std.specs.Prelude.{◌≡◌, ◌⊎◌, ℕ};
+ghost use Rattle.std.specs.Prelude.{◌≡◌, ℕ};
 ghost use Rattle.fbc_kinds.specs.Chain.{chain, version_of};
 ghost use Rattle.fbc_kinds.specs.Reach.{LinksTo};
 ghost use Rattle.fbc_kinds.specs.Sound.{IsSound};
@@ -11,15 +11,17 @@ ghost use Rattle.fbc_kinds.specs.declared.shapes.Shape.{Shape};
 ghost use Rattle.fbc_views.specs.Alike.{HasNoMoreLinks, HaveSameStates, IsCutBelow, KeepsLostCells, KeepsLostPages};
 ghost use Rattle.fbc_rows.specs.Forms.{IsCut};
 ghost use Rattle.fbc_views.specs.Edited.{with_page};
+ghost use Rattle.fbc_rows.specs.Differences.{GoesThrough};
 ghost use Rattle.fbc_rows.specs.Puts.{IsPutIn};
 
-/// A version loses its link: where it is in a chain, the chain ends with it.
+/// A version loses its link. A chain that goes through its cell ends with it, and all others stay.
 pub fn cuts_keep_views()
     ensures sound { (shape : Shape) (view : View) (number cell : ℕ) (new : Cell) (content : Page) → IsPutIn shape view number cell new content → IsCut view number cell new
         → IsSound (with_page view number content) }
-    ensures chains { (shape : Shape) (view : View) (number cell : ℕ) (new : Cell) (content : Page) → IsPutIn shape view number cell new content → IsCut view number cell new
-        → (relation row : ℕ) → (chain (with_page view number content) relation row ≡ chain view relation row)
-        ⊎ IsCutBelow (version_of new) (chain view relation row) (chain (with_page view number content) relation row) }
+    ensures chain { (shape : Shape) (view : View) (number cell : ℕ) (new : Cell) (content : Page) → IsPutIn shape view number cell new content → IsCut view number cell new
+        → (relation row : ℕ) → GoesThrough view relation row number cell → IsCutBelow (version_of new) (chain view relation row) (chain (with_page view number content) relation row) }
+    ensures others { (shape : Shape) (view : View) (number cell : ℕ) (new : Cell) (content : Page) → IsPutIn shape view number cell new content → IsCut view number cell new
+        → (relation row : ℕ) → ¬ GoesThrough view relation row number cell → chain (with_page view number content) relation row ≡ chain view relation row }
     ensures states { (shape : Shape) (view : View) (number cell : ℕ) (new : Cell) (content : Page) → IsPutIn shape view number cell new content → IsCut view number cell new
         → HaveSameStates view (with_page view number content) }
     ensures links { (shape : Shape) (view : View) (number cell : ℕ) (new : Cell) (content : Page) → IsPutIn shape view number cell new content → IsCut view number cell new

@@ -27,7 +27,7 @@ pub use edits::{
 pub use marks::{marks_keep_views, marks_mean_the_same};
 pub use meanings::{
     backouts_mean_the_same, cleared_deletions_mean_the_same, cleared_versions_mean_the_same,
-    cuts_mean_the_same, unnamed_values_mean_the_same,
+    cuts_mean_the_same, uncommitted_versions_mean_nothing, unnamed_values_mean_the_same,
 };
 pub use puts::{first_versions_keep_views, moved_versions_keep_views, own_versions_keep_views};
 pub use tops::{backouts_keep_views, new_versions_keep_views};

@@ -25,5 +25,6 @@ pub mod PageNamed
 pub mod PageUnnamed
 pub mod SameMeaning
 pub mod RolledBack
+pub mod NextKept
 pub mod NextMeaning
 pub mod ShapeKept

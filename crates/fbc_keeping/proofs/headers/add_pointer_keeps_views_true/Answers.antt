@@ -5,4 +5,4 @@ use Rattle.fbc_keeping.proofs.StaysTrue.{kept_true}
 use Rattle.fbc_keeping.proofs.headers.add_pointer_keeps_views_true.Goals as goal
 
 pub returns : goal.returns
-returns c = λ shape file relation added. kept_true shape file (edit.AddPointer relation added) (λ _. refl) (λ past owner page content seen stamps commits. pointer_kept shape file past owner page content seen stamps commits relation added)
+returns c = λ shape file relation added. kept_true shape file (edit.AddPointer relation added) (λ _. refl) (λ past owner page content seen stamps commits upheld. pointer_kept shape file past owner page content seen stamps commits relation added)

@@ -5,4 +5,4 @@ use Rattle.fbc_keeping.proofs.StaysTrue.{kept_true}
 use Rattle.fbc_keeping.proofs.headers.add_tip_keeps_views_true.Goals as goal
 
 pub returns : goal.returns
-returns c = λ shape file added. kept_true shape file (edit.AddTip added) (λ _. refl) (λ past owner page content seen stamps commits. tip_kept shape file past owner page content seen stamps commits added)
+returns c = λ shape file added. kept_true shape file (edit.AddTip added) (λ _. refl) (λ past owner page content seen stamps commits upheld. tip_kept shape file past owner page content seen stamps commits added)

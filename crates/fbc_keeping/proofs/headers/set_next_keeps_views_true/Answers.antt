@@ -5,4 +5,4 @@ use Rattle.fbc_keeping.proofs.StaysTrue.{kept_true}
 use Rattle.fbc_keeping.proofs.headers.set_next_keeps_views_true.Goals as goal
 
 pub returns : goal.returns
-returns c = λ shape file next. kept_true shape file (edit.SetNext next) (λ _. refl) (λ past owner page content seen stamps commits. next_kept shape file past owner page content seen stamps commits next)
+returns c = λ shape file next. kept_true shape file (edit.SetNext next) (λ _. refl) (λ past owner page content seen stamps commits upheld. next_kept shape file past owner page content seen stamps commits next)

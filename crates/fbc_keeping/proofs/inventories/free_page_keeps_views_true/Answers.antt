@@ -5,4 +5,4 @@ use Rattle.fbc_keeping.proofs.StaysTrue.{kept_true}
 use Rattle.fbc_keeping.proofs.inventories.free_page_keeps_views_true.Goals as goal
 
 pub returns : goal.returns
-returns c = λ shape file freed. kept_true shape file (edit.FreePage freed) (λ _. refl) (λ past owner page content seen stamps commits. free_kept shape file past owner page content seen stamps commits freed)
+returns c = λ shape file freed. kept_true shape file (edit.FreePage freed) (λ _. refl) (λ past owner page content seen stamps commits upheld. free_kept shape file past owner page content seen stamps commits freed)

@@ -5,4 +5,4 @@ use Rattle.fbc_keeping.proofs.StaysTrue.{kept_true}
 use Rattle.fbc_keeping.proofs.namings.name_keeps_views_true.Goals as goal
 
 pub returns : goal.returns
-returns c = λ shape file slot named. kept_true shape file (edit.Name slot named) (λ _. refl) (λ past owner page content seen stamps commits. name_kept shape file past owner page content seen stamps commits slot named)
+returns c = λ shape file slot named. kept_true shape file (edit.Name slot named) (λ _. refl) (λ past owner page content seen stamps commits upheld. name_kept shape file past owner page content seen stamps commits slot named)

@@ -1,7 +1,7 @@
 use Rattle.std.proofs.Common.{◌∙◌, refl, ap}
 use Rattle.fbc_kinds.specs.declared.pages.Cell.{Cell}
 use Rattle.fbc_kinds.specs.View.{is_empty}
-use Rattle.fbc_rows.proofs.CutChains.{cut_chains}
+use Rattle.fbc_rows.proofs.CutThrough.{cut_through, kept_apart}
 use Rattle.fbc_rows.proofs.OneCell.{is_new, one_cell_put, state_same}
 use Rattle.fbc_rows.proofs.NoNewLinks.{all_cells_stay, names_none, no_more_links, sound_after, stays_lost}
 use Rattle.fbc_rows.proofs.SoundCells.{pages_stay}
@@ -12,9 +12,13 @@ pub returns-clause-sound : goal.returns-clause-sound
 returns-clause-sound c shape view number cell new content put cut =
     sound_after put.sound (one_cell_put put cut.stands) (no_link_cut put.sound number cell new cut)
 
-pub returns-clause-chains : goal.returns-clause-chains
-returns-clause-chains c shape view number cell new content put cut relation row =
-    cut_chains (one_cell_put put cut.stands) cut.same relation row
+pub returns-clause-chain : goal.returns-clause-chain
+returns-clause-chain c shape view number cell new content put cut relation row through =
+    cut_through put.sound (one_cell_put put cut.stands) cut.same relation row through
+
+pub returns-clause-others : goal.returns-clause-others
+returns-clause-others c shape view number cell new content put cut relation row apart =
+    kept_apart (one_cell_put put cut.stands) cut.same relation row apart
 
 pub returns-clause-states : goal.returns-clause-states
 returns-clause-states c shape view number cell new content put cut = state_same (one_cell_put put cut.stands)

@@ -3,10 +3,10 @@ use Rattle.fbc_kinds.specs.declared.edits.Edit.{Edit}
 use Rattle.fbc_kinds.specs.declared.edits.Edit.TheVariants as edit
 use Rattle.fbc_kinds.specs.declared.pages.Cell.{Cell}
 use Rattle.fbc_kinds.specs.Sound.{IsSound}
-use Rattle.fbc_rows.specs.Forms.{AllowsPut, IsAdmittedEdit, backout, cut, first, move, over, own_again}
+use Rattle.fbc_rows.specs.Forms.{AllowsClear, AllowsPut, IsAdmittedEdit, backout, cut, deleted, first, lone, move, over, own_again, unnamed}
 use Rattle.fbc_views.specs.Allowed.{Allows, IsAllowedEdit}
 use Rattle.fbc_views.specs.Edited.{with_page}
-use Rattle.fbc_rows.specs.Puts.{IsClearIn, IsPutIn, MayBeCleared, deleted, lone, unnamed}
+use Rattle.fbc_rows.specs.Puts.{IsClearIn, IsPutIn}
 use Rattle.fbc_rows.proofs.edits.edits_keep_views_sound.Goals as goal
 
 pub returns : goal.returns
@@ -20,7 +20,7 @@ returns c shape view number any content is = go any is
     put_sound cell new put (backout form) = c.backouts_keep_views.ensures.sound shape view number cell new content put form
     put_sound cell new put (cut form) = c.cuts_keep_views.ensures.sound shape view number cell new content put form
 
-    clear_sound : (cell : ℕ) → IsClearIn shape view number cell content → MayBeCleared view number cell → IsSound (with_page view number content)
+    clear_sound : (cell : ℕ) → IsClearIn shape view number cell content → AllowsClear view number cell → IsSound (with_page view number content)
     clear_sound cell clear (lone form) = c.cleared_versions_keep_views.ensures.sound shape view number cell content clear form
     clear_sound cell clear (deleted form) = c.cleared_deletions_keep_views.ensures.sound shape view number cell content clear form
     clear_sound cell clear (unnamed form) = c.cleared_values_keep_views.ensures.sound shape view number cell content clear form

@@ -1,10 +1,14 @@
+use Rattle.std.proofs.Common.{refl}
 use Rattle.fbc_kinds.specs.Sound.{IsSound}
 use Rattle.fbc_views.specs.Alike.{KeepsLostPages, ReadAlike}
+use Rattle.fbc_views.specs.Edited.{with_page}
 use Rattle.fbc_views.proofs.Fitted.{adds_inventory}
 use Rattle.fbc_views.proofs.HeaderCases.{header_cases}
 use Rattle.fbc_views.proofs.HeaderStands.{header_is}
 use Rattle.fbc_views.proofs.InventoryAdded.{added_inventory_alike, added_inventory_lost, added_inventory_sound}
+use Rattle.fbc_views.proofs.NextKept.{header_next_kept}
 use Rattle.fbc_views.proofs.OffReach.{off_reach_alike, off_reach_lost, off_reach_sound}
+use Rattle.fbc_views.proofs.SameMeaning.{means_same}
 use Rattle.fbc_views.proofs.headers.added_inventories_keep_views.Goals as goal
 
 pub returns-clause-sound : goal.returns-clause-sound
@@ -27,3 +31,9 @@ returns-clause-lost c = λ shape view number content is.
     header_cases (KeepsLostPages view) view number content made.header _ is.sound made.changes
     (λ stands. added_inventory_lost shape view made.header is.sound is.of_shape stands (rw (header_is view made.header stands) at is.allowed))
     (λ off. off_reach_lost view number content off)
+
+pub returns-clause-meaning : goal.returns-clause-meaning
+returns-clause-meaning c = λ shape view number content is living.
+    let made = adds_inventory shape (view number) content is.fits in
+    let alike = returns-clause-alike c shape view number content is in
+    means_same living view (with_page view number content) alike.states alike.chains (header_next_kept view number content made.header _ made.changes refl)

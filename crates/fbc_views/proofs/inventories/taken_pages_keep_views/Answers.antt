@@ -6,7 +6,9 @@ use Rattle.fbc_views.specs.Alike.{KeepsLostPages, ReadAlike}
 use Rattle.fbc_views.specs.Edited.{with_page}
 use Rattle.fbc_views.proofs.Fitted.{takes_mark}
 use Rattle.fbc_views.proofs.MarkChanged.{mark_alike}
+use Rattle.fbc_views.proofs.NextKept.{mark_next_kept}
 use Rattle.fbc_views.proofs.PageTaken.{taken_is_lost, taken_lost, taken_sound}
+use Rattle.fbc_views.proofs.SameMeaning.{means_same}
 use Rattle.fbc_views.proofs.inventories.taken_pages_keep_views.Goals as goal
 
 pub returns-clause-sound : goal.returns-clause-sound
@@ -32,3 +34,9 @@ returns-clause-taken c = λ shape view number page content is reached unreached.
     let made = takes_mark shape page (view number) content is.fits in
     let P : Page → Type 0 = λ after. IsLostPage (with_page view number after) page in
     subst P made.made (taken_is_lost shape view number page made.inventory is.of_shape is.sound made.stands made.covered reached unreached)
+
+pub returns-clause-meaning : goal.returns-clause-meaning
+returns-clause-meaning c = λ shape view number page content is living.
+    let made = takes_mark shape page (view number) content is.fits in
+    let alike = returns-clause-alike c shape view number page content is in
+    means_same living view (with_page view number content) alike.states alike.chains (mark_next_kept view number content shape.size page true made)

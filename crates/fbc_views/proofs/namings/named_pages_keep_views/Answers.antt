@@ -5,7 +5,9 @@ use Rattle.fbc_kinds.specs.Sound.{IsSound}
 use Rattle.fbc_views.specs.Alike.{KeepsLostPagesBut, ReadAlike}
 use Rattle.fbc_views.specs.Edited.{with_page}
 use Rattle.fbc_views.proofs.Fitted.{names_slot}
+use Rattle.fbc_views.proofs.NextKept.{slot_next_kept}
 use Rattle.fbc_views.proofs.PageNamed.{named_alike, named_lost, named_reached, named_sound, slot_ready}
+use Rattle.fbc_views.proofs.SameMeaning.{means_same}
 use Rattle.fbc_views.proofs.namings.named_pages_keep_views.Goals as goal
 
 pub returns-clause-sound : goal.returns-clause-sound
@@ -35,3 +37,9 @@ returns-clause-lost c = λ shape view number slot page content is.
     let P : Page → Type 0 = λ after. KeepsLostPagesBut page view (with_page view number after) in
     let ready = slot_ready shape view number slot page made.pointer made.stands is.allowed in
     subst P made.made (named_lost shape view number slot page made.pointer is.of_shape is.sound made.stands made.within ready.0 ready.1)
+
+pub returns-clause-meaning : goal.returns-clause-meaning
+returns-clause-meaning c = λ shape view number slot page content is living.
+    let made = names_slot shape slot page (view number) content is.fits in
+    let alike = returns-clause-alike c shape view number slot page content is in
+    means_same living view (with_page view number content) alike.states alike.chains (slot_next_kept view number content slot page made)

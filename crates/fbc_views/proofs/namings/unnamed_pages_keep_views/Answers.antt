@@ -5,7 +5,9 @@ use Rattle.fbc_kinds.specs.Sound.{IsSound}
 use Rattle.fbc_views.specs.Alike.{KeepsLostPages, ReadAlike}
 use Rattle.fbc_views.specs.Edited.{with_page}
 use Rattle.fbc_views.proofs.Fitted.{unnames_slot}
+use Rattle.fbc_views.proofs.NextKept.{slot_next_kept}
 use Rattle.fbc_views.proofs.PageUnnamed.{unnamed_alike, unnamed_lost, unnamed_sound, unnamed_unreached}
+use Rattle.fbc_views.proofs.SameMeaning.{means_same}
 use Rattle.fbc_views.proofs.namings.unnamed_pages_keep_views.Goals as goal
 
 pub returns-clause-sound : goal.returns-clause-sound
@@ -31,3 +33,9 @@ returns-clause-lost c = λ shape view number slot content is.
     let made = unnames_slot shape slot (view number) content is.fits in
     let P : Page → Type 0 = λ after. KeepsLostPages view (with_page view number after) in
     subst P made.made (unnamed_lost shape view number slot made.pointer is.of_shape is.sound made.stands made.within is.allowed)
+
+pub returns-clause-meaning : goal.returns-clause-meaning
+returns-clause-meaning c = λ shape view number slot content is living.
+    let made = unnames_slot shape slot (view number) content is.fits in
+    let alike = returns-clause-alike c shape view number slot content is in
+    means_same living view (with_page view number content) alike.states alike.chains (slot_next_kept view number content slot 0 made)
