@@ -1,0 +1,6 @@
+pub mod Shared
+pub mod Adding
+pub mod Granting
+pub mod Answering
+pub mod Stepping
+pub mod Kept

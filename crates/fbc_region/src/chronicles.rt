@@ -1,0 +1,73 @@
+//! The journal as a region alone can lengthen it.
+
+ghost use Rattle.std.specs.Prelude.{◌≡◌, ◌<◌, ◌≤◌, ◌+◌, ◌++◌, ◌∷◌, [], IfOk, OnOk};
+ghost use Rattle.fbc_kinds.specs.Edits.{IsShape};
+ghost use Rattle.fbc_legal.specs.Lives.{entered, entered_step};
+ghost use Rattle.fbc_world.specs.History.{recorded};
+
+use fbc_kinds::{Edit, Reply, Shape};
+use fbc_world::{Act, Ask, Event, Journal, LocalEvent};
+use std::alloc::{AllocError, Global};
+use std::marker::Model;
+
+/// A journal that only a region can lengthen, seen by contracts as that journal. In it come no more owners than there are
+/// numbers for.
+#[derive(Debug, Drop)]
+pub struct Chronicle {
+    journal: Journal,
+}
+
+impl Model for Chronicle {
+    ghost use Rattle.std.specs.Prelude.{◌≤◌};
+    ghost use Rattle.fbc_legal.specs.Lives.{entered};
+    ghost use Rattle.fbc_world.specs.History.{Recording, recorded};
+
+    ghost Value = { Recording };
+
+    ghost view = { λ c. c.journal };
+
+    ghost invariant = { λ c. entered (recorded c.journal) ≤ 65536 };
+}
+
+impl Chronicle {
+    /// A chronicle without events, of a file of that shape.
+    pub fn new(alloc: Global, shape: &Shape) -> Result<Chronicle, AllocError>
+        requires { IsShape shape.now }
+        ensures shape { IfOk result (λ chronicle. chronicle.shape ≡ shape.now) }
+        ensures events { IfOk result (λ chronicle. chronicle.events ≡ []) }
+    {
+        let journal = Journal::new(alloc, shape)?;
+        Ok(Chronicle { journal })
+    }
+
+    /// The journal, to be read.
+    pub fn journal(&self) -> &Journal
+        ensures journal { result.now ≡ self.now }
+        ensures few { entered (recorded self.now) ≤ 65536 }
+    {
+        &self.journal
+    }
+
+    /// Makes room for that many more events.
+    pub(crate) fn reserve(&mut self, events: u32) -> Result<(), AllocError>
+        ensures ok { OnOk result (events ≤ self.new.spare) }
+        ensures spare { self.old.spare ≤ self.new.spare }
+        ensures shape { self.new.shape ≡ self.old.shape }
+        ensures events { self.new.events ≡ self.old.events }
+    {
+        self.journal.reserve(events)
+    }
+
+    /// Adds an event, for which there is room.
+    pub(crate) fn push(&mut self, event: Event)
+        requires room { 0 < self.old.spare }
+        requires few { entered_step (entered (recorded self.old)) event.act ≤ 65536 }
+        ensures spare { self.new.spare + 1 ≡ self.old.spare }
+        ensures shape { self.new.shape ≡ self.old.shape }
+        ensures events { self.new.events ≡ self.old.events ++ event ∷ [] }
+    {
+        // The types inside an event are named here for the borrow checker.
+        let _told: Option<(&Act, &Ask, &LocalEvent, &Edit, &Reply)> = None;
+        self.journal.push(event);
+    }
+}
