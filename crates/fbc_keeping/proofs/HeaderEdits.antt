@@ -1,5 +1,5 @@
 -- Views that see the header name one more page, or count one more page inventory.
-use Rattle.std.proofs.Common.{Bool, ◌≡◌, ◌∙◌, ℕ, length, inl, inr, Option, Some, None, refl, sym, subst}
+use Rattle.std.proofs.Common.{◌≡◌, ◌∙◌, ℕ, length, inl, inr, Option, Some, None, refl, sym, subst}
 use Rattle.fbc_kinds.specs.declared.edits.Edit.{Edit}
 use Rattle.fbc_kinds.specs.declared.edits.Edit.TheVariants as edit
 use Rattle.fbc_kinds.specs.declared.pages.Header.{Header}
@@ -21,13 +21,13 @@ use Rattle.fbc_legal.specs.Facts.{IsInventory}
 use Rattle.fbc_legal.specs.Leans.{InventoryLeans, PointerLeans, TipLeans}
 use Rattle.fbc_legal.specs.Scene.{Scene, newest_at, scene_of}
 use Rattle.fbc_legal.specs.Stamps.{Stamps}
-use Rattle.fbc_cut.specs.Owed.{IsSeenEdit}
+use Rattle.fbc_closed_cuts.specs.Owed.{IsSeenEdit}
 use Rattle.fbc_keeping.specs.Seen.{IsKept}
 use Rattle.fbc_keeping.proofs.Kept.{kept_alike, kept_off}
 use Rattle.fbc_keeping.proofs.Ready.{ready_seen}
 use Rattle.fbc_keeping.proofs.Shown.{shown}
 
-module _ (shape : Shape) (file : View) (past : History) (owner page : ℕ) (content : Page) (seen : View) (stamps : ℕ → Stamps) (commits : ℕ → Bool) where
+module _ (shape : Shape) (file : View) (past : History) (owner page : ℕ) (content : Page) (seen : View) (stamps : ℕ → Stamps) where
   abbrev at : Scene
   at = scene_of shape file past
 
@@ -35,7 +35,7 @@ module _ (shape : Shape) (file : View) (past : History) (owner page : ℕ) (cont
   after = with_page seen page content
 
   abbrev Sees : Edit → Type 0
-  Sees e = IsSeenEdit shape file past owner page e content seen stamps commits
+  Sees e = IsSeenEdit shape file past owner page e content seen stamps
 
   -- the header that the edit changes is the newest content of its page
   newest_header : (e : Edit) (header : Header) → Sees e → seen page ≡ Some (kind.Header header) → newest_at at page ≡ Some (kind.Header header)
@@ -46,10 +46,10 @@ module _ (shape : Shape) (file : View) (past : History) (owner page : ℕ) (cont
       let made = adds_tip shape added (seen page) content is.fits in
       let leans : TipLeans at owner page added (Some made.header) =
       subst (λ (o : Option Page). TipLeans at owner page added (header_in o)) (newest_header (edit.AddTip added) made.header is made.changes.stands) is.guard.leans in
-      let ready = ready_seen at owner page seen stamps is.sees is.of_shape is.was_true.sound added 3 0 (length made.header.tips) leans.0 in
-      header_cases (IsKept seen) seen page content made.header _ is.was_true.sound made.changes
-      (λ stands. kept_alike seen _ (added_tip_sound shape seen made.header added is.was_true.sound stands ready) (added_tip_alike shape seen made.header added is.was_true.sound stands ready) (rw stands refl))
-      (λ off. kept_off seen page content is.was_true.sound off)
+      let ready = ready_seen at owner page seen stamps is.sees is.of_shape is.sound added 3 0 (length made.header.tips) leans.0 in
+      header_cases (IsKept seen) seen page content made.header _ is.sound made.changes
+      (λ stands. kept_alike seen _ (added_tip_sound shape seen made.header added is.sound stands ready) (added_tip_alike shape seen made.header added is.sound stands ready) (rw stands refl))
+      (λ off. kept_off seen page content is.sound off)
 
   pub inventory_kept : Sees edit.AddInventory → IsKept seen after
   inventory_kept is =
@@ -58,14 +58,14 @@ module _ (shape : Shape) (file : View) (past : History) (owner page : ℕ) (cont
       subst (λ (o : Option Page). InventoryLeans at owner page (header_in o)) (newest_header edit.AddInventory made.header is made.changes.stands) is.guard.leans in
       let next : ℕ = inventory_page shape.size made.header.inventories in
       let there = shown at owner page seen stamps is.sees (IsInventory next made.header.inventories) next leans in
-      header_cases (IsKept seen) seen page content made.header _ is.was_true.sound made.changes
-      (λ stands. kept_alike seen _ (added_inventory_sound shape seen made.header is.was_true.sound is.of_shape stands there) (added_inventory_alike shape seen made.header is.was_true.sound is.of_shape stands there) (rw stands refl))
-      (λ off. kept_off seen page content is.was_true.sound off)
+      header_cases (IsKept seen) seen page content made.header _ is.sound made.changes
+      (λ stands. kept_alike seen _ (added_inventory_sound shape seen made.header is.sound is.of_shape stands there) (added_inventory_alike shape seen made.header is.sound is.of_shape stands there) (rw stands refl))
+      (λ off. kept_off seen page content is.sound off)
 
   module _ (relation added : ℕ) (is : Sees (edit.AddPointer relation added)) where
     pointer_allowed : (o : Option Relation) → PointerLeans at owner page added relation o → AllowsPointer shape seen relation added o
     pointer_allowed None leans = leans
-    pointer_allowed (Some entry) leans = ready_seen at owner page seen stamps is.sees is.of_shape is.was_true.sound added 4 relation (length entry.pointers) leans.0
+    pointer_allowed (Some entry) leans = ready_seen at owner page seen stamps is.sees is.of_shape is.sound added 4 relation (length entry.pointers) leans.0
 
     at_header : 0 ≡ page → AllowsPointer shape seen relation added (relation_of seen relation)
     at_header here =
@@ -75,12 +75,12 @@ module _ (shape : Shape) (file : View) (past : History) (owner page : ℕ) (cont
     pub pointer_kept : IsKept seen after
     pointer_kept =
         let made = adds_pointer shape relation added (seen page) content is.fits in
-        elim (header_or_unreached seen page made.header is.was_true.sound made.changes.stands) [
+        elim (header_or_unreached seen page made.header is.sound made.changes.stands) [
           | inl here ↦
-              header_cases (IsKept seen) seen page content made.header _ is.was_true.sound made.changes
+              header_cases (IsKept seen) seen page content made.header _ is.sound made.changes
               (λ stands.
               let ready = entry_ready shape seen made.header relation added made.entry stands made.entry_is (at_header here) in
-              kept_alike seen _ (added_pointer_sound shape seen made.header relation added made.entry is.was_true.sound stands made.entry_is ready) (added_pointer_alike shape seen made.header relation added made.entry is.was_true.sound stands made.entry_is ready) (rw stands refl))
-              (λ off. kept_off seen page content is.was_true.sound off)
-          | inr off ↦ kept_off seen page content is.was_true.sound off
+              kept_alike seen _ (added_pointer_sound shape seen made.header relation added made.entry is.sound stands made.entry_is ready) (added_pointer_alike shape seen made.header relation added made.entry is.sound stands made.entry_is ready) (rw stands refl))
+              (λ off. kept_off seen page content is.sound off)
+          | inr off ↦ kept_off seen page content is.sound off
         ]

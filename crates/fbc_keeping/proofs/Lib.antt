@@ -1,7 +1,6 @@
 pub mod Shown
 pub mod Ready
 pub mod Kept
-pub mod StaysTrue
 pub mod HeaderEdits
 pub mod NextNumbers
 pub mod PageEdits

@@ -14,7 +14,7 @@ use Rattle.fbc_legal.specs.Leans.{IsInUse}
 use Rattle.fbc_legal.specs.Scene.{Scene}
 use Rattle.fbc_legal.specs.Stamps.{Stamps}
 use Rattle.fbc_legal.specs.Traces.{inventory_over}
-use Rattle.fbc_cut.specs.Owed.{SeesEdit}
+use Rattle.fbc_closed_cuts.specs.Owed.{SeesEdit}
 use Rattle.fbc_keeping.proofs.Shown.{shown}
 
 module _ (at : Scene) (owner edited : ℕ) (seen : View) (stamps : ℕ → Stamps) (sees : SeesEdit at owner edited seen stamps) (of_shape : IsOfShape at.shape seen) (sound : IsSound seen) where

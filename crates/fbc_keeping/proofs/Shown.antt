@@ -5,7 +5,7 @@ use Rattle.fbc_legal.specs.Facts.{Fact}
 use Rattle.fbc_legal.specs.Leans.{IsShown}
 use Rattle.fbc_legal.specs.Scene.{Scene, HasDraft, IsBefore, newest_at}
 use Rattle.fbc_legal.specs.Stamps.{Stamps, newest_stamps}
-use Rattle.fbc_cut.specs.Owed.{IsSeenKept, IsSeenNewest, SeesEdit}
+use Rattle.fbc_closed_cuts.specs.Owed.{IsSeenKept, IsSeenNewest, SeesEdit}
 
 module _ (at : Scene) (owner edited : ℕ) (seen : View) (stamps : ℕ → Stamps) (sees : SeesEdit at owner edited seen stamps) where
   newest_shown : (fact : Fact) (other : ℕ) → IsSeenNewest at other (seen other) (stamps other) → fact (newest_at at other) (newest_stamps at.world at.stamps other) → fact (seen other) (stamps other)

@@ -1,5 +1,5 @@
-//! Edits keep views true: what is owed of each edit, from its guard and the law over one view. This
-//! crate has the edits of headers, page inventories and pointer pages, and formats.
+//! Edits keep views: each view that sees an edit of a header, a page inventory or a pointer page, or a
+//! format, stays sound and reads as before.
 #![tactic(auto)]
 
 mod headers;
@@ -8,11 +8,8 @@ mod namings;
 mod seen;
 
 pub use headers::{
-    add_inventory_keeps_views_true, add_pointer_keeps_views_true, add_tip_keeps_views_true,
-    set_next_keeps_views_true,
+    add_inventory_keeps_views, add_pointer_keeps_views, add_tip_keeps_views, set_next_keeps_views,
 };
-pub use inventories::{
-    format_keeps_views_true, free_page_keeps_views_true, take_page_keeps_views_true,
-};
-pub use namings::{name_keeps_views_true, unname_keeps_views_true};
-pub use seen::kept_views_stay_true;
+pub use inventories::{format_keeps_views, free_page_keeps_views, take_page_keeps_views};
+pub use namings::{name_keeps_views, unname_keeps_views};
+pub use seen::kept_views_are_sound;

@@ -2,17 +2,17 @@
 //! anything.
 
 ghost use Rattle.std.specs.Prelude.{ℕ};
-ghost use Rattle.fbc_cut.specs.Owed.{KeepsViewsTrue};
+ghost use Rattle.fbc_keeping.specs.Seen.{KeepsViews};
 ghost use Rattle.fbc_kinds.specs.View.{View};
 ghost use Rattle.fbc_kinds.specs.declared.edits.Edit.TheVariants.{Name, Unname};
 ghost use Rattle.fbc_kinds.specs.declared.shapes.Shape.{Shape};
 
 /// A data page is named.
-pub fn name_keeps_views_true()
-    ensures { (shape : Shape) (file : View) (slot page : ℕ) → KeepsViewsTrue shape file (Name slot page) }
+pub fn name_keeps_views()
+    ensures { (shape : Shape) (file : View) (slot page : ℕ) → KeepsViews shape file (Name slot page) }
 {}
 
 /// A data page without versions is named no more.
-pub fn unname_keeps_views_true()
-    ensures { (shape : Shape) (file : View) (slot : ℕ) → KeepsViewsTrue shape file (Unname slot) }
+pub fn unname_keeps_views()
+    ensures { (shape : Shape) (file : View) (slot : ℕ) → KeepsViews shape file (Unname slot) }
 {}

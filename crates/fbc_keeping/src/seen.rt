@@ -1,13 +1,13 @@
-//! Edits by one view that sees them. This function does nothing.
+//! Edits by one view that sees them. These functions do nothing.
 
-ghost use Rattle.fbc_cut.specs.Owed.{KeepsViewsTrue};
-ghost use Rattle.fbc_keeping.specs.Seen.{CommitsNothing, KeepsViews};
+ghost use Rattle.fbc_closed_cuts.specs.Owed.{KeepsViewsSound};
+ghost use Rattle.fbc_keeping.specs.Seen.{KeepsViews};
 ghost use Rattle.fbc_kinds.specs.View.{View};
 ghost use Rattle.fbc_kinds.specs.declared.edits.Edit.{Edit};
 ghost use Rattle.fbc_kinds.specs.declared.shapes.Shape.{Shape};
+ghost use Rattle.fbc_world.specs.History.{History};
 
-/// An edit that commits nothing keeps views true, if each view that sees it stays sound and means the
-/// same: what an open transaction changes is rolled back in it.
-pub fn kept_views_stay_true()
-    ensures { (shape : Shape) (file : View) (edit : Edit) → CommitsNothing edit → KeepsViews shape file edit → KeepsViewsTrue shape file edit }
+/// An edit that keeps each view that sees it leaves it sound.
+pub fn kept_views_are_sound()
+    ensures { (shape : Shape) (file : View) (edit : Edit) → KeepsViews shape file edit → (past : History) → KeepsViewsSound shape file past edit }
 {}

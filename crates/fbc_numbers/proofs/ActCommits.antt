@@ -9,9 +9,9 @@ use Rattle.fbc_world.specs.History.{History, Moment}
 use Rattle.fbc_world.specs.World.{World, newest_of, world_of}
 use Rattle.fbc_legal.specs.Legal.{IsLegal}
 use Rattle.fbc_legal.specs.Stamps.{stamps_of}
-use Rattle.fbc_cut.specs.Cut.{Cut, IsClosedCut, view}
-use Rattle.fbc_cut.specs.Views.{IsSameView, cut_before, is_edit, with_one}
-use Rattle.fbc_cut.proofs.CutLaws.{no-new-views}
+use Rattle.fbc_closed_cuts.specs.Cut.{Cut, IsClosedCut, view}
+use Rattle.fbc_closed_cuts.specs.Views.{IsSameView, cut_before, is_edit, with_one}
+use Rattle.fbc_closed_cuts.proofs.CutLaws.{no-new-views}
 use Rattle.fbc_numbers.specs.Numbers.{CommitsGrow, IsWithinCut, is_committed_in}
 use Rattle.fbc_numbers.proofs.CutFacts.{all-closed, all-view, all_drafts, committed-newest, kept-committed, no_draft, none-closed}
 

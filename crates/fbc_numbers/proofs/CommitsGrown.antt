@@ -12,9 +12,9 @@ use Rattle.fbc_world.specs.History.{History, happens}
 use Rattle.fbc_world.specs.World.{World, page_after, world_of}
 use Rattle.fbc_legal.specs.Legal.{IsLegal}
 use Rattle.fbc_legal.specs.Scene.{scene_of}
-use Rattle.fbc_cut.specs.Cut.{Cut, IsClosedCut, view}
-use Rattle.fbc_cut.specs.Upheld.{IsUpheld}
-use Rattle.fbc_cut.specs.Views.{drafted_in}
+use Rattle.fbc_closed_cuts.specs.Cut.{Cut, IsClosedCut, view}
+use Rattle.fbc_closed_cuts.specs.Upheld.{IsUpheld}
+use Rattle.fbc_closed_cuts.specs.Views.{drafted_in}
 use Rattle.fbc_numbers.specs.Numbers.{CommitsGrow, IsWithinCut, OpensAreUncommitted, is_committed_in}
 use Rattle.fbc_numbers.proofs.CutFacts.{clash}
 use Rattle.fbc_numbers.proofs.EditCommits.{committed_by, mark_of, stays-committed, with-closed, with-page, without-closed, without-page}

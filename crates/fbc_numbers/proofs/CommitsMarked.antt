@@ -29,9 +29,9 @@ use Rattle.fbc_legal.specs.Legal.{IsLegal}
 use Rattle.fbc_legal.specs.Rows.{IsCommitMark, IsEditOfRow, IsMark}
 use Rattle.fbc_legal.specs.Scene.{Scene, scene_of}
 use Rattle.fbc_legal.proofs.Exclusion.{both_of, is_plain, same_number}
-use Rattle.fbc_cut.specs.Growth.{GrowsInto}
-use Rattle.fbc_cut.specs.Upheld.{IsMarkDrafted, IsUpheld}
-use Rattle.fbc_cut.specs.Views.{is_edit}
+use Rattle.fbc_closed_cuts.specs.Growth.{GrowsInto}
+use Rattle.fbc_closed_cuts.specs.Upheld.{IsMarkDrafted, IsUpheld}
+use Rattle.fbc_closed_cuts.specs.Views.{is_edit}
 use Rattle.fbc_numbers.specs.Numbers.{CommitsAreMarked, CommitsGrow, IsMarkedBy, IsTrueMark, MarksAreTrue, OpensAreUncommitted, is_committed_in}
 use Rattle.fbc_numbers.proofs.ActCommits.{kept-after, newest-before}
 use Rattle.fbc_numbers.proofs.CutFacts.{all-closed, all-view, all_drafts, clash, false_from, no_draft, none-closed}

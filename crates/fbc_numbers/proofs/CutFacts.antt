@@ -6,8 +6,8 @@ use Rattle.fbc_kinds.specs.View.{View}
 use Rattle.fbc_world.specs.declared.drafts.Draft.{Draft}
 use Rattle.fbc_world.specs.PageCell.{newest_in}
 use Rattle.fbc_world.specs.World.{World, newest_of}
-use Rattle.fbc_cut.specs.Cut.{Cut, IsClosedCut, view}
-use Rattle.fbc_cut.specs.Views.{drafted_in}
+use Rattle.fbc_closed_cuts.specs.Cut.{Cut, IsClosedCut, view}
+use Rattle.fbc_closed_cuts.specs.Views.{drafted_in}
 use Rattle.fbc_numbers.specs.Numbers.{CommitsGrow, is_committed_in}
 
 abbrev pub no_draft : Cut

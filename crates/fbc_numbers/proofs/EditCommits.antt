@@ -30,12 +30,12 @@ use Rattle.fbc_legal.specs.Rows.{IsDeadMark, IsEditOfRow, IsMark}
 use Rattle.fbc_legal.proofs.Exclusion.{same_number}
 use Rattle.fbc_legal.specs.Scene.{Scene, newest_at, scene_of}
 use Rattle.fbc_legal.specs.Stamps.{PageStamps, stamps_of}
-use Rattle.fbc_cut.specs.Cut.{Cut, IsClosedCut, view}
-use Rattle.fbc_cut.specs.Upheld.{IsUpheld}
-use Rattle.fbc_cut.specs.Views.{IsSameView, IsViewOfEdit, drafted_in, view_stamps}
-use Rattle.fbc_cut.proofs.CutLaws.{edit-spares, edit-views, leans-shown, named_nowhere-unreached}
-use Rattle.fbc_cut.proofs.EditViews.{still_drafted}
-use Rattle.fbc_cut.proofs.UpheldEdits.{newest_fits}
+use Rattle.fbc_closed_cuts.specs.Cut.{Cut, IsClosedCut, view}
+use Rattle.fbc_closed_cuts.specs.Upheld.{IsUpheld}
+use Rattle.fbc_closed_cuts.specs.Views.{IsSameView, IsViewOfEdit, drafted_in, view_stamps}
+use Rattle.fbc_closed_cuts.proofs.CutLaws.{edit-spares, edit-views, leans-shown, named_nowhere-unreached}
+use Rattle.fbc_closed_cuts.proofs.EditViews.{still_drafted}
+use Rattle.fbc_closed_cuts.proofs.UpheldEdits.{newest_fits}
 use Rattle.fbc_numbers.specs.Numbers.{CommitsGrow, OpensAreUncommitted, is_committed_in}
 use Rattle.fbc_numbers.proofs.CutFacts.{all-closed, all-view, all_drafts, clash, never-committed, wide-view}
 use Rattle.fbc_numbers.proofs.NamedTips.{commit-named, tip_seen}

@@ -18,3 +18,11 @@ pub mod CommittedNumbers
 pub mod SnapshotsTrue
 pub mod Numbered
 pub mod DeadMarks
+pub mod NumberWaits
+pub mod OpensHeld
+pub mod EditStates
+pub mod OpensNotDead
+pub mod FailedWrites
+pub mod OpensOutOfFile
+pub mod OpensApart
+pub mod BeginFacts

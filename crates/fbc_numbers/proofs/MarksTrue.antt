@@ -27,9 +27,9 @@ use Rattle.fbc_legal.specs.Rows.{IsCommitMark, IsEditOfRow}
 use Rattle.fbc_legal.specs.Scene.{Scene}
 use Rattle.fbc_legal.proofs.Exclusion.{is_plain, same_number}
 use Rattle.fbc_legal.proofs.HeaderGrowth.{exclusive-own, own_from}
-use Rattle.fbc_cut.specs.Upheld.{IsMarkDrafted, IsUpheld}
-use Rattle.fbc_cut.specs.Views.{is_edit}
-use Rattle.fbc_cut.proofs.MarksKept.{own_of}
+use Rattle.fbc_closed_cuts.specs.Upheld.{IsMarkDrafted, IsUpheld}
+use Rattle.fbc_closed_cuts.specs.Views.{is_edit}
+use Rattle.fbc_closed_cuts.proofs.MarksKept.{own_of}
 use Rattle.fbc_numbers.specs.Numbers.{IsTrueMark, MarksAreTrue}
 use Rattle.fbc_numbers.proofs.CutFacts.{all-closed, all-view, all_drafts, clash}
 use Rattle.fbc_numbers.proofs.NamedTips.{commit-named, tip_grown}

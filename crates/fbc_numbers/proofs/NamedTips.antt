@@ -15,8 +15,8 @@ use Rattle.fbc_world.specs.World.{World, newest_of}
 use Rattle.fbc_legal.specs.Naming.{IsNamedFor, IsNamedTip}
 use Rattle.fbc_legal.specs.Rows.{IsCommitMark}
 use Rattle.fbc_legal.specs.Scene.{HasDraft, Scene}
-use Rattle.fbc_cut.specs.Cut.{Cut, view}
-use Rattle.fbc_cut.specs.Growth.{GrowsInto}
+use Rattle.fbc_closed_cuts.specs.Cut.{Cut, view}
+use Rattle.fbc_closed_cuts.specs.Growth.{GrowsInto}
 use Rattle.fbc_numbers.proofs.PageStates.{tip_in}
 
 abbrev pub next_in : Option Page → ℕ

@@ -19,11 +19,11 @@ use Rattle.fbc_legal.specs.Scene.{scene_of}
 use Rattle.fbc_legal.proofs.Exclusion.{is_plain}
 use Rattle.fbc_legal.proofs.Induction.{requests_true}
 use Rattle.fbc_legal.proofs.Ranked.{IsRanked-legal}
-use Rattle.fbc_cut.specs.Upheld.{IsUpheld, IsUpheldThroughout}
-use Rattle.fbc_cut.specs.Views.{is_edit}
-use Rattle.fbc_cut.proofs.UpheldActs.{acts-uphold}
-use Rattle.fbc_cut.proofs.UpheldEdits.{newest_fits}
-use Rattle.fbc_cut.proofs.UpheldLegal.{upheld-now}
+use Rattle.fbc_closed_cuts.specs.Upheld.{IsUpheld, IsUpheldThroughout}
+use Rattle.fbc_closed_cuts.specs.Views.{is_edit}
+use Rattle.fbc_closed_cuts.proofs.UpheldActs.{acts-uphold}
+use Rattle.fbc_closed_cuts.proofs.UpheldEdits.{newest_fits}
+use Rattle.fbc_closed_cuts.proofs.UpheldLegal.{upheld-now}
 use Rattle.fbc_numbers.specs.Numbers.{IsNumbered, MarksAreTrue, NumbersDiffer, OpenNumbersStand, SnapshotsAreTrue}
 use Rattle.fbc_numbers.proofs.ActCommits.{acts-grow}
 use Rattle.fbc_numbers.proofs.CommitsGrown.{edits-grow, grow-start}

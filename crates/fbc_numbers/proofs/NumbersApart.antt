@@ -11,7 +11,7 @@ use Rattle.fbc_legal.specs.Guards.{Guard}
 use Rattle.fbc_legal.specs.Legal.{MayAct}
 use Rattle.fbc_legal.specs.Scene.{Scene}
 use Rattle.fbc_legal.proofs.Exclusion.{excluded, is_plain}
-use Rattle.fbc_cut.specs.Views.{is_edit}
+use Rattle.fbc_closed_cuts.specs.Views.{is_edit}
 use Rattle.fbc_numbers.specs.Numbers.{IsRaised, IsUnraised, NumbersDiffer, OpenNumbersStand}
 use Rattle.fbc_numbers.proofs.CutFacts.{clash}
 use Rattle.fbc_numbers.proofs.Opens.{Begins, WasOpen, open-acted, open-edited}

@@ -22,7 +22,7 @@ use Rattle.fbc_legal.specs.Guards.{Guard, GuardOfGrant, MayBegin}
 use Rattle.fbc_legal.specs.Legal.{MayAct}
 use Rattle.fbc_legal.specs.Scene.{Scene}
 use Rattle.fbc_legal.proofs.Exclusion.{is_plain, same_number}
-use Rattle.fbc_cut.specs.Views.{is_edit}
+use Rattle.fbc_closed_cuts.specs.Views.{is_edit}
 
 -- the transaction was open before, with the same mark or none
 pub record WasOpen (w after : World) (owner : ℕ) (t : Transaction) : Type 0 where

@@ -18,8 +18,8 @@ use Rattle.fbc_legal.specs.Legal.{MayAct}
 use Rattle.fbc_legal.specs.Scene.{Scene}
 use Rattle.fbc_legal.proofs.Exclusion.{AreRequestsTrue, is_plain, same_number, waits_bare}
 use Rattle.fbc_legal.proofs.HeaderGrowth.{exclusive-own, own_from}
-use Rattle.fbc_cut.specs.Views.{is_edit}
-use Rattle.fbc_cut.proofs.MarksKept.{own_of}
+use Rattle.fbc_closed_cuts.specs.Views.{is_edit}
+use Rattle.fbc_closed_cuts.proofs.MarksKept.{own_of}
 use Rattle.fbc_numbers.specs.Numbers.{IsOpenNumber, IsRaised, IsUnraised, OpenNumbersStand}
 use Rattle.fbc_numbers.proofs.CutFacts.{clash}
 use Rattle.fbc_numbers.proofs.NamedTips.{next_in}

@@ -15,7 +15,7 @@ use Rattle.fbc_legal.specs.Rows.{IsEditOfRow, IsNext}
 use Rattle.fbc_legal.specs.Scene.{Scene}
 use Rattle.fbc_legal.proofs.Exclusion.{excluded, same_number}
 use Rattle.fbc_legal.proofs.HeaderGrowth.{exclusive-own, never_format}
-use Rattle.fbc_cut.proofs.MarksKept.{own_of}
+use Rattle.fbc_closed_cuts.proofs.MarksKept.{own_of}
 use Rattle.fbc_numbers.specs.Numbers.{IsUnraised, OpenNumbersStand}
 use Rattle.fbc_numbers.proofs.CutFacts.{clash}
 use Rattle.fbc_numbers.proofs.NamedTips.{next_in}

@@ -19,8 +19,8 @@ use Rattle.fbc_legal.specs.Legal.{IsLegal}
 use Rattle.fbc_legal.specs.Rows.{IsEditOfRow, IsMark}
 use Rattle.fbc_legal.specs.Scene.{Scene, scene_of}
 use Rattle.fbc_legal.proofs.Exclusion.{is_plain, same_number}
-use Rattle.fbc_cut.specs.Upheld.{IsUpheld}
-use Rattle.fbc_cut.specs.Views.{is_edit}
+use Rattle.fbc_closed_cuts.specs.Upheld.{IsUpheld}
+use Rattle.fbc_closed_cuts.specs.Views.{is_edit}
 use Rattle.fbc_numbers.specs.Numbers.{CommitsGrow, NumbersDiffer, OpensAreUncommitted, is_committed_in}
 use Rattle.fbc_numbers.proofs.ActCommits.{newest-before}
 use Rattle.fbc_numbers.proofs.CutFacts.{all-closed, all-view, all_drafts, clash, false_from}

@@ -20,8 +20,8 @@ use Rattle.fbc_legal.specs.Legal.{IsLegal}
 use Rattle.fbc_legal.specs.Scene.{Scene, scene_of}
 use Rattle.fbc_legal.proofs.Exclusion.{excluded, is_plain, same_number}
 use Rattle.fbc_legal.proofs.Pins.{PinsAreHeld}
-use Rattle.fbc_cut.specs.Upheld.{IsUpheld}
-use Rattle.fbc_cut.specs.Views.{is_edit}
+use Rattle.fbc_closed_cuts.specs.Upheld.{IsUpheld}
+use Rattle.fbc_closed_cuts.specs.Views.{is_edit}
 use Rattle.fbc_numbers.specs.Numbers.{CommitsAreMarked, CommitsGrow, IsMarkedBy, IsSnapshotNumber, MarksAreTrue, SnapshotsAreTrue, is_committed_in}
 use Rattle.fbc_numbers.proofs.ActCommits.{kept-after}
 use Rattle.fbc_numbers.proofs.CommitsMarked.{mark-of}

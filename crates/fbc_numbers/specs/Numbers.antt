@@ -12,7 +12,7 @@ use Rattle.fbc_levels.specs.declared.levels.Level.TheVariants.{Ex}
 use Rattle.fbc_world.specs.Holdings.{is_draft_of, page_resource}
 use Rattle.fbc_world.specs.World.{World, newest_of}
 use Rattle.fbc_legal.specs.Scene.{Scene}
-use Rattle.fbc_cut.specs.Cut.{Cut, IsClosedCut, view}
+use Rattle.fbc_closed_cuts.specs.Cut.{Cut, IsClosedCut, view}
 
 -- Whether a number is committed in a view.
 abbrev pub is_committed_in : View → ℕ → Bool

@@ -2,7 +2,7 @@
 //! functions does anything.
 
 ghost use Rattle.fbc_numbers.specs.Numbers.{CommitsAreMarked, CommitsGrow, MarksAreTrue, NumbersDiffer, OpenNumbersStand, OpensAreUncommitted, SnapshotsAreTrue};
-ghost use Rattle.fbc_cut.specs.Upheld.{IsUpheldThroughout};
+ghost use Rattle.fbc_closed_cuts.specs.Upheld.{IsUpheldThroughout};
 ghost use Rattle.fbc_kinds.specs.View.{View};
 ghost use Rattle.fbc_kinds.specs.declared.shapes.Shape.{Shape};
 ghost use Rattle.fbc_legal.specs.Legal.{IsLegal};

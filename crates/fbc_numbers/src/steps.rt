@@ -2,7 +2,7 @@
 
 ghost use Rattle.fbc_numbers.specs.Numbers.{IsNumbered};
 ghost use Rattle.std.specs.Prelude.{◌∷◌, []};
-ghost use Rattle.fbc_cut.specs.Upheld.{IsUpheld, IsUpheldThroughout};
+ghost use Rattle.fbc_closed_cuts.specs.Upheld.{IsUpheld, IsUpheldThroughout};
 ghost use Rattle.fbc_kinds.specs.View.{View};
 ghost use Rattle.fbc_kinds.specs.declared.shapes.Shape.{Shape};
 ghost use Rattle.fbc_legal.specs.Legal.{IsLegal};

@@ -3,7 +3,7 @@
 
 ghost use Rattle.fbc_numbers.specs.Numbers.{IsNumbered, is_committed_in};
 ghost use Rattle.std.specs.Prelude.{◌≡◌, ◌<◌, ◌⊎◌, ℕ, None, Some, false, true};
-ghost use Rattle.fbc_cut.specs.Cut.{Cut, IsClosedCut, view};
+ghost use Rattle.fbc_closed_cuts.specs.Cut.{Cut, IsClosedCut, view};
 ghost use Rattle.fbc_kinds.specs.Machine.{is_held};
 ghost use Rattle.fbc_kinds.specs.declared.snapshots.Transaction.{Transaction};
 ghost use Rattle.fbc_legal.specs.Scene.{Scene};

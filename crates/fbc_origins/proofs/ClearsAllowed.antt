@@ -14,7 +14,7 @@ use Rattle.fbc_legal.specs.Leans.{ClearLeans, MayClear}
 use Rattle.fbc_legal.specs.Rows.{IsClearing}
 use Rattle.fbc_legal.specs.Scene.{Scene, born_at, newest_at}
 use Rattle.fbc_legal.specs.Stamps.{Stamps}
-use Rattle.fbc_cut.specs.Owed.{SeesEdit}
+use Rattle.fbc_closed_cuts.specs.Owed.{SeesEdit}
 use Rattle.fbc_numbers.specs.Numbers.{is_committed_in}
 use Rattle.fbc_rows.proofs.Flags.{back_of_top, unlinked}
 use Rattle.fbc_origins.specs.Owed.{IsInOrder}

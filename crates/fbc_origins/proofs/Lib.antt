@@ -9,9 +9,7 @@ pub mod CellsKept
 pub mod VersionsKept
 pub mod Seeing
 pub mod PutsAllowed
-pub mod MeaningKept
-pub mod PutsKept
-pub mod PutsTrue
+pub mod PutsSound
 pub mod ViewsNext
 pub mod Meant
 pub mod PutLinks

@@ -14,7 +14,7 @@ use Rattle.fbc_legal.specs.Rows.{IsBackout, IsCut, IsPut, without_link}
 use Rattle.fbc_legal.specs.Scene.{Scene, newest_at}
 use Rattle.fbc_legal.specs.Stamps.{is_same_flag, takes_link}
 use Rattle.fbc_legal.proofs.Exclusion.{both_of, same_number}
-use Rattle.fbc_cut.specs.Upheld.{IsUpheld}
+use Rattle.fbc_closed_cuts.specs.Upheld.{IsUpheld}
 use Rattle.fbc_origins.specs.Origins.{IsSameVersion}
 use Rattle.fbc_origins.proofs.PutPages.{IsPutPage, newest-sound, put-page, put-reached}
 

@@ -24,7 +24,7 @@ use Rattle.fbc_legal.specs.Rows.{IsCut}
 use Rattle.fbc_legal.specs.Scene.{Scene, newest_at, scene_of}
 use Rattle.fbc_legal.specs.Stamps.{Stamps, born_after, born_in_newest, newest_stamps, stamp_after, stamped, stamps_step, takes_link}
 use Rattle.fbc_legal.specs.Traces.{IsMovedBy}
-use Rattle.fbc_cut.specs.Views.{view_stamps}
+use Rattle.fbc_closed_cuts.specs.Views.{view_stamps}
 use Rattle.fbc_rows.proofs.Flags.{reached_how, top_of_back}
 use Rattle.fbc_origins.specs.Owed.{IsInOrder, leaves_cells}
 use Rattle.fbc_origins.proofs.CellsAfter.{cells-cleared, cells-left, cells-put}

@@ -20,7 +20,6 @@ use Rattle.fbc_world.specs.World.{page_after}
 use Rattle.fbc_legal.specs.Guards.{GuardOfEdit}
 use Rattle.fbc_legal.specs.Scene.{Scene}
 use Rattle.fbc_legal.specs.Stamps.{Stamps, newest_stamps, stamped}
-use Rattle.fbc_cut.specs.Owed.{SeesEdit}
 use Rattle.fbc_rows.specs.Differences.{IsPlace}
 use Rattle.fbc_rows.specs.Puts.{IsClearIn, IsPutIn}
 use Rattle.fbc_rows.proofs.NoLinkForms.{no_link_clear}

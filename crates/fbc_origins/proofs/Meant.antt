@@ -5,8 +5,8 @@ use Rattle.fbc_kinds.specs.Reach.{LinksTo}
 use Rattle.fbc_kinds.specs.View.{View}
 use Rattle.fbc_legal.specs.Scene.{Scene, born_at, newest_at}
 use Rattle.fbc_legal.specs.Stamps.{Stamps, newest_stamps}
-use Rattle.fbc_cut.specs.Owed.{SeesEdit}
-use Rattle.fbc_cut.specs.Views.{view_stamps}
+use Rattle.fbc_closed_cuts.specs.Owed.{SeesEdit}
+use Rattle.fbc_closed_cuts.specs.Views.{view_stamps}
 use Rattle.fbc_origins.specs.Origins.{EveryView, LinksAreMeant}
 use Rattle.fbc_origins.proofs.PutPages.{every_draft, newest-closed, newest-view}
 use Rattle.fbc_origins.proofs.Seeing.{one-stamps, one-view}

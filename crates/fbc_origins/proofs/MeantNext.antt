@@ -11,9 +11,9 @@ use Rattle.fbc_world.specs.History.{History, Moment, happens}
 use Rattle.fbc_world.specs.World.{page_after, world_of}
 use Rattle.fbc_legal.specs.Guards.{GuardOfEdit}
 use Rattle.fbc_legal.specs.Legal.{IsLegal}
-use Rattle.fbc_legal.specs.Scene.{Scene, scene_of}
+use Rattle.fbc_legal.specs.Scene.{scene_of}
 use Rattle.fbc_origins.specs.Origins.{LinksAreMeant}
-use Rattle.fbc_origins.specs.Owed.{IsInOrder, LinksStay, MakeNoLinks}
+use Rattle.fbc_origins.specs.Owed.{IsInOrder, MakeNoLinks}
 use Rattle.fbc_origins.proofs.LinksNext.{edit-meant}
 use Rattle.fbc_origins.proofs.Meant.{AreMeant}
 use Rattle.fbc_origins.proofs.ViewsNext.{views-acted, views-edited}

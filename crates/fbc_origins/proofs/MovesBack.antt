@@ -19,8 +19,8 @@ use Rattle.fbc_legal.specs.Guards.{GuardOfEdit}
 use Rattle.fbc_legal.specs.Legal.{IsLegal}
 use Rattle.fbc_legal.specs.Scene.{Scene, newest_at, scene_of}
 use Rattle.fbc_legal.specs.Stamps.{Stamps, born_in_newest, newest_stamps, stamp_after, stamped}
-use Rattle.fbc_cut.specs.Cut.{Cut}
-use Rattle.fbc_cut.specs.Views.{is_edit, view_stamps}
+use Rattle.fbc_closed_cuts.specs.Cut.{Cut}
+use Rattle.fbc_closed_cuts.specs.Views.{is_edit, view_stamps}
 use Rattle.fbc_origins.specs.Origins.{EveryView, MovesAreBack}
 use Rattle.fbc_origins.specs.Owed.{IsInOrder}
 use Rattle.fbc_origins.proofs.CellsAfter.{cells-put}

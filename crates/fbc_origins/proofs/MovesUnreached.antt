@@ -26,7 +26,7 @@ use Rattle.fbc_legal.specs.Legal.{IsLegal}
 use Rattle.fbc_legal.specs.Rows.{IsNewVersion, IsPut, without_link}
 use Rattle.fbc_legal.specs.Scene.{Scene, newest_after, newest_at, scene_of}
 use Rattle.fbc_legal.specs.Stamps.{Stamps, born_after, born_in_newest, newest_stamps, stamp_after, stamped, takes_link}
-use Rattle.fbc_cut.specs.Views.{is_edit}
+use Rattle.fbc_closed_cuts.specs.Views.{is_edit}
 use Rattle.fbc_rows.specs.Differences.{IsPlace}
 use Rattle.fbc_rows.specs.Puts.{IsClearIn, IsPutIn}
 use Rattle.fbc_rows.proofs.Flags.{top_of_back}

@@ -14,7 +14,7 @@ use Rattle.fbc_views.specs.Facing.{IsLinked}
 use Rattle.fbc_legal.specs.Guards.{GuardOfEdit}
 use Rattle.fbc_legal.specs.Scene.{Scene, born_at, meant_at, newest_at}
 use Rattle.fbc_legal.specs.Stamps.{Stamps, born_after, born_in_newest, is_same_flag, meant_after, meant_by, newest_stamps, stamp_after, stamped, takes_link}
-use Rattle.fbc_cut.specs.Owed.{IsSeenKept, IsSeenNewest}
+use Rattle.fbc_closed_cuts.specs.Owed.{IsSeenKept, IsSeenNewest}
 use Rattle.fbc_rows.specs.Differences.{IsPlace}
 use Rattle.fbc_rows.specs.Puts.{IsPutIn}
 use Rattle.fbc_rows.proofs.NoLinkForms.{first_unlinked, move_unlinked, no_link_cut, no_link_first, no_link_move, no_link_own, own_unlinked}

@@ -21,8 +21,8 @@ use Rattle.fbc_legal.specs.Guards.{GuardOfEdit}
 use Rattle.fbc_legal.specs.Leans.{PutLeans, PutLeansOn}
 use Rattle.fbc_legal.specs.Naming.{IsNamedData, IsNamedFor}
 use Rattle.fbc_legal.specs.Scene.{Scene, newest_at}
-use Rattle.fbc_cut.specs.Cut.{Cut, IsClosedCut, view}
-use Rattle.fbc_cut.specs.Upheld.{IsUpheld}
+use Rattle.fbc_closed_cuts.specs.Cut.{Cut, IsClosedCut, view}
+use Rattle.fbc_closed_cuts.specs.Upheld.{IsUpheld}
 
 -- the view of all drafts is the newest one
 abbrev pub every_draft : World → Cut

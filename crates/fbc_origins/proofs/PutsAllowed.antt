@@ -20,9 +20,9 @@ use Rattle.fbc_legal.specs.Rows.{IsPut, as_back}
 use Rattle.fbc_legal.specs.Rows.{IsBackout as IsBackoutAt, IsCut as IsCutAt, IsFirstVersion, IsMove as IsMoveAt, IsNewVersion, IsOwnChange}
 use Rattle.fbc_legal.specs.Scene.{Scene, born_at, newest_at}
 use Rattle.fbc_legal.specs.Stamps.{Stamps, newest_stamps}
-use Rattle.fbc_cut.specs.Owed.{IsSeenKept, IsSeenNewest, SeesEdit}
-use Rattle.fbc_cut.specs.Upheld.{IsUpheld}
-use Rattle.fbc_cut.specs.Views.{view_stamps}
+use Rattle.fbc_closed_cuts.specs.Owed.{IsSeenKept, IsSeenNewest, SeesEdit}
+use Rattle.fbc_closed_cuts.specs.Upheld.{IsUpheld}
+use Rattle.fbc_closed_cuts.specs.Views.{view_stamps}
 use Rattle.fbc_numbers.specs.Numbers.{IsNumbered, IsSnapshotNumber, is_committed_in}
 use Rattle.fbc_origins.specs.Origins.{IsOriginal, IsSameVersion}
 use Rattle.fbc_origins.proofs.PutPages.{IsPutPage, every_draft, newest-closed, newest-sound, newest-view, put-page, put-reached}

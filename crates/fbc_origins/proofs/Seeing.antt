@@ -16,10 +16,10 @@ use Rattle.fbc_legal.specs.Facts.{Fact, HasNextAbove, NamesInSlot, NamesPointer}
 use Rattle.fbc_legal.specs.Leans.{IsShown}
 use Rattle.fbc_legal.specs.Scene.{Scene, HasDraft, IsBefore, newest_at}
 use Rattle.fbc_legal.specs.Stamps.{Stamps, newest_stamps}
-use Rattle.fbc_cut.specs.Cut.{view}
-use Rattle.fbc_cut.specs.Owed.{IsSeenKept, IsSeenNewest, SeesEdit}
-use Rattle.fbc_cut.specs.Upheld.{IsUpheld}
-use Rattle.fbc_cut.specs.Views.{view_stamps}
+use Rattle.fbc_closed_cuts.specs.Cut.{view}
+use Rattle.fbc_closed_cuts.specs.Owed.{IsSeenKept, IsSeenNewest, SeesEdit}
+use Rattle.fbc_closed_cuts.specs.Upheld.{IsUpheld}
+use Rattle.fbc_closed_cuts.specs.Views.{view_stamps}
 use Rattle.fbc_numbers.specs.Numbers.{CommitsGrow, is_committed_in}
 use Rattle.fbc_origins.proofs.PutPages.{every_draft, named-reached, newest-closed, newest-view}
 

@@ -13,8 +13,8 @@ use Rattle.fbc_legal.specs.Guards.{GuardOfEdit}
 use Rattle.fbc_legal.specs.Legal.{IsLegal}
 use Rattle.fbc_legal.specs.Scene.{Scene, newest_at, scene_of}
 use Rattle.fbc_legal.specs.Stamps.{Stamps, born_in_newest, newest_stamps, stamp_after, stamped}
-use Rattle.fbc_cut.specs.Upheld.{IsUpheld, IsUpheldThroughout}
-use Rattle.fbc_cut.proofs.UpheldLegal.{upheld-now}
+use Rattle.fbc_closed_cuts.specs.Upheld.{IsUpheld, IsUpheldThroughout}
+use Rattle.fbc_closed_cuts.proofs.UpheldLegal.{upheld-now}
 use Rattle.fbc_origins.specs.Origins.{CellsKeepVersions, StampsArePast}
 use Rattle.fbc_origins.proofs.CellsAfter.{cells-cleared, cells-left, cells-put}
 use Rattle.fbc_origins.specs.Owed.{leaves_cells}

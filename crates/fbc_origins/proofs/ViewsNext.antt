@@ -20,11 +20,11 @@ use Rattle.fbc_legal.specs.Stamps.{PageStamps, Stamps, born_in_newest, newest_st
 use Rattle.fbc_legal.proofs.Exclusion.{IsOwnDraft}
 use Rattle.fbc_legal.proofs.HeaderGrowth.{exclusive-own, newest-own}
 use Rattle.fbc_legal.proofs.Induction.{IsCoherent-legal}
-use Rattle.fbc_cut.specs.Cut.{Cut, IsClosedCut, view}
-use Rattle.fbc_cut.specs.Owed.{IsSeenKept, IsSeenNewest, SeesEdit}
-use Rattle.fbc_cut.specs.Views.{IsSameView, IsViewOfEdit, cut_before, drafted_in, is_edit, view_stamps}
-use Rattle.fbc_cut.proofs.CutLaws.{edit-spares, edit-views, named_nowhere-unreached, no-new-views, takes}
-use Rattle.fbc_cut.proofs.WriteViews.{draft_there}
+use Rattle.fbc_closed_cuts.specs.Cut.{Cut, IsClosedCut, view}
+use Rattle.fbc_closed_cuts.specs.Owed.{IsSeenKept, IsSeenNewest, SeesEdit}
+use Rattle.fbc_closed_cuts.specs.Views.{IsSameView, IsViewOfEdit, cut_before, drafted_in, is_edit, view_stamps}
+use Rattle.fbc_closed_cuts.proofs.CutLaws.{edit-spares, edit-views, named_nowhere-unreached, no-new-views, takes}
+use Rattle.fbc_closed_cuts.proofs.WriteViews.{draft_there}
 use Rattle.fbc_origins.specs.Origins.{EveryView}
 use Rattle.fbc_origins.proofs.StampLineage.{stamps-own}
 

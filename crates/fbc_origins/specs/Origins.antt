@@ -8,8 +8,8 @@ use Rattle.fbc_views.specs.Facing.{IsLinked}
 use Rattle.fbc_legal.specs.Scene.{Scene, born_at, newest_at}
 use Rattle.fbc_legal.specs.Stamps.{Stamps, newest_stamps}
 use Rattle.fbc_legal.specs.Traces.{IsMovedBy, IsUnlinkedBy}
-use Rattle.fbc_cut.specs.Cut.{Cut, IsClosedCut, view}
-use Rattle.fbc_cut.specs.Views.{view_stamps}
+use Rattle.fbc_closed_cuts.specs.Cut.{Cut, IsClosedCut, view}
+use Rattle.fbc_closed_cuts.specs.Views.{view_stamps}
 
 -- The stamps of every view of a closed cut, with its pages, have this property.
 abbrev pub EveryView : Scene → (View → (ℕ → Stamps) → Type 0) → Type 0

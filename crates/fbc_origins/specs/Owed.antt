@@ -1,19 +1,17 @@
--- What is owed of edits where numbers and origins are as legal histories keep them.
+-- Where all is in order, and what is owed there of edits of what is no cell.
 use Rattle.std.specs.Prelude.{◌≡◌, ℕ, Bool, true, false, Some}
 use Rattle.fbc_kinds.specs.declared.edits.Edit.{Edit}
 use Rattle.fbc_kinds.specs.declared.edits.Edit.TheVariants as edit
 use Rattle.fbc_kinds.specs.declared.pages.Page.{Page}
-use Rattle.fbc_kinds.specs.declared.shapes.Shape.{Shape}
 use Rattle.fbc_kinds.specs.View.{View}
 use Rattle.fbc_views.specs.Alike.{HasNoMoreLinks}
 use Rattle.fbc_views.specs.Edited.{with_page}
-use Rattle.fbc_world.specs.History.{History}
 use Rattle.fbc_world.specs.World.{page_after}
 use Rattle.fbc_legal.specs.Guards.{GuardOfEdit}
-use Rattle.fbc_legal.specs.Scene.{Scene, scene_of}
+use Rattle.fbc_legal.specs.Scene.{Scene}
 use Rattle.fbc_legal.specs.Stamps.{Stamps}
-use Rattle.fbc_cut.specs.Owed.{KeepsTrueAfter, SeesEdit}
-use Rattle.fbc_cut.specs.Upheld.{IsUpheld}
+use Rattle.fbc_closed_cuts.specs.Owed.{SeesEdit}
+use Rattle.fbc_closed_cuts.specs.Upheld.{IsUpheld}
 use Rattle.fbc_numbers.specs.Numbers.{IsNumbered}
 use Rattle.fbc_origins.specs.Origins.{IsOriginal}
 
@@ -22,11 +20,6 @@ pub record IsInOrder (at : Scene) : Type 0 where
   pub upheld : IsUpheld at
   pub numbered : IsNumbered at
   pub original : IsOriginal at
-
--- What is owed of an edit where all is in order: after each such history it makes of each view that sees it one that is true of
--- the machine after it.
-abbrev pub KeepsViewsTrueInOrder : Shape → View → Edit → Type 0
-KeepsViewsTrueInOrder shape file edit = (past : History) → IsInOrder (scene_of shape file past) → KeepsTrueAfter shape file past edit
 
 -- Whether an edit leaves all cells.
 abbrev pub leaves_cells : Edit → Bool

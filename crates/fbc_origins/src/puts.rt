@@ -1,16 +1,17 @@
 //! Versions that are put into cells, and cells that are cleared. None of these functions does anything of
 //! its own.
 
-ghost use Rattle.fbc_cut.specs.Owed.{SeesEdit};
+ghost use Rattle.fbc_closed_cuts.specs.Owed.{KeepsViewsSound, SeesEdit};
 ghost use Rattle.fbc_kinds.specs.View.{View};
 ghost use Rattle.fbc_kinds.specs.declared.edits.Edit.TheVariants.{ClearCell, PutCell};
 ghost use Rattle.fbc_kinds.specs.declared.pages.Cell.{Cell};
 ghost use Rattle.fbc_kinds.specs.declared.shapes.Shape.{Shape};
 ghost use Rattle.fbc_legal.specs.Guards.{GuardOfEdit};
-ghost use Rattle.fbc_legal.specs.Scene.{Scene};
+ghost use Rattle.fbc_legal.specs.Scene.{Scene, scene_of};
 ghost use Rattle.fbc_legal.specs.Stamps.{Stamps};
-ghost use Rattle.fbc_origins.specs.Owed.{IsInOrder, KeepsViewsTrueInOrder};
+ghost use Rattle.fbc_origins.specs.Owed.{IsInOrder};
 ghost use Rattle.fbc_rows.specs.Forms.{AllowsClear, AllowsPutOn};
+ghost use Rattle.fbc_world.specs.History.{History};
 ghost use Rattle.std.specs.Prelude.{ℕ};
 
 use fbc_rows::edits_keep_views_sound;
@@ -27,9 +28,16 @@ pub fn clears_are_allowed()
         → GuardOfEdit at owner page (ClearCell cell) → SeesEdit at owner page seen stamps → AllowsClear seen page cell }
 {}
 
-/// What is owed of puts: each of them keeps views true, where all is in order.
-pub fn put_cell_keeps_views_true()
-    ensures { (shape : Shape) (file : View) (cell : ℕ) (content : Cell) → KeepsViewsTrueInOrder shape file (PutCell cell content) }
+/// Where all is in order, a version that is put leaves each view that sees it sound.
+pub fn put_cell_keeps_views_sound()
+    ensures { (shape : Shape) (file : View) (past : History) (cell : ℕ) (content : Cell) → IsInOrder (scene_of shape file past) → KeepsViewsSound shape file past (PutCell cell content) }
+{
+    edits_keep_views_sound();
+}
+
+/// So does a cell that is cleared.
+pub fn clear_cell_keeps_views_sound()
+    ensures { (shape : Shape) (file : View) (past : History) (cell : ℕ) → IsInOrder (scene_of shape file past) → KeepsViewsSound shape file past (ClearCell cell) }
 {
     edits_keep_views_sound();
 }

@@ -1,6 +1,6 @@
 //! Stamps of pages, and what they tell. None of these functions does anything.
 
-ghost use Rattle.fbc_cut.specs.Upheld.{IsUpheldThroughout};
+ghost use Rattle.fbc_closed_cuts.specs.Upheld.{IsUpheldThroughout};
 ghost use Rattle.fbc_kinds.specs.View.{View};
 ghost use Rattle.fbc_kinds.specs.declared.shapes.Shape.{Shape};
 ghost use Rattle.fbc_legal.specs.Legal.{IsLegal};

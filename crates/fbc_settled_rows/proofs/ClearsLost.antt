@@ -21,10 +21,10 @@ use Rattle.fbc_legal.specs.Naming.{IsNamedData, IsNamedFor}
 use Rattle.fbc_legal.specs.Rows.{IsClearing}
 use Rattle.fbc_legal.specs.Scene.{Scene, newest_at}
 use Rattle.fbc_legal.specs.Stamps.{Stamps}
-use Rattle.fbc_cut.specs.Cut.{Cut, IsClosedCut, view}
-use Rattle.fbc_cut.specs.Owed.{SeesEdit}
-use Rattle.fbc_cut.specs.Upheld.{IsUpheld}
-use Rattle.fbc_cut.specs.Views.{view_stamps}
+use Rattle.fbc_closed_cuts.specs.Cut.{Cut, IsClosedCut, view}
+use Rattle.fbc_closed_cuts.specs.Owed.{SeesEdit}
+use Rattle.fbc_closed_cuts.specs.Upheld.{IsUpheld}
+use Rattle.fbc_closed_cuts.specs.Views.{view_stamps}
 use Rattle.fbc_numbers.specs.Numbers.{is_committed_in}
 use Rattle.fbc_rows.specs.Puts.{IsClearIn}
 use Rattle.fbc_rows.proofs.Flags.{back_of_top, top_of_back, unlinked, unreached}

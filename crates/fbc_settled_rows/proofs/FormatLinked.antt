@@ -20,9 +20,9 @@ use Rattle.fbc_legal.specs.Leans.{FormatLeans}
 use Rattle.fbc_legal.specs.Legal.{IsLegal}
 use Rattle.fbc_legal.specs.Rows.{IsFormat}
 use Rattle.fbc_legal.specs.Scene.{Scene, newest_at, scene_of}
-use Rattle.fbc_cut.specs.Cut.{view}
-use Rattle.fbc_cut.specs.Upheld.{IsUpheld}
-use Rattle.fbc_cut.specs.Views.{drafted_in}
+use Rattle.fbc_closed_cuts.specs.Cut.{view}
+use Rattle.fbc_closed_cuts.specs.Upheld.{IsUpheld}
+use Rattle.fbc_closed_cuts.specs.Views.{drafted_in}
 use Rattle.fbc_origins.proofs.PutPages.{every_draft, newest-closed, newest-sound}
 use Rattle.fbc_origins.proofs.ViewsNext.{edited-view}
 use Rattle.fbc_settled_rows.proofs.OthersKeep.{linked-on}

@@ -22,9 +22,9 @@ use Rattle.fbc_legal.specs.Stamps.{Stamps, born_in_newest, newest_stamps, stamp_
 use Rattle.fbc_legal.specs.Traces.{IsEditOf, IsUnlinkedBy, born_after_all}
 use Rattle.fbc_world.specs.declared.drafts.Draft.{Draft}
 use Rattle.fbc_legal.specs.Guards.{GuardOfEdit}
-use Rattle.fbc_cut.specs.Cut.{Cut, IsClosedCut, view}
-use Rattle.fbc_cut.specs.Owed.{SeesEdit}
-use Rattle.fbc_cut.specs.Views.{is_edit, view_stamps}
+use Rattle.fbc_closed_cuts.specs.Cut.{Cut, IsClosedCut, view}
+use Rattle.fbc_closed_cuts.specs.Owed.{SeesEdit}
+use Rattle.fbc_closed_cuts.specs.Views.{is_edit, view_stamps}
 use Rattle.fbc_kinds.specs.Reach.{ReachesPage}
 use Rattle.fbc_views.specs.Alike.{HasNoMoreLinks}
 use Rattle.fbc_views.proofs.OffReach.{off_reach_alike}

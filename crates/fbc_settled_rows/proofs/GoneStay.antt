@@ -14,9 +14,9 @@ use Rattle.fbc_legal.specs.Guards.{GuardOfEdit}
 use Rattle.fbc_legal.specs.Rows.{IsNewVersion, IsPut}
 use Rattle.fbc_legal.specs.Scene.{Scene, newest_at}
 use Rattle.fbc_legal.specs.Stamps.{Stamps}
-use Rattle.fbc_cut.specs.Cut.{Cut, IsClosedCut, view}
-use Rattle.fbc_cut.specs.Owed.{SeesEdit}
-use Rattle.fbc_cut.specs.Views.{view_stamps}
+use Rattle.fbc_closed_cuts.specs.Cut.{Cut, IsClosedCut, view}
+use Rattle.fbc_closed_cuts.specs.Owed.{SeesEdit}
+use Rattle.fbc_closed_cuts.specs.Views.{view_stamps}
 use Rattle.fbc_rows.specs.Differences.{IsPlace, LinksBelow}
 use Rattle.fbc_rows.specs.Puts.{IsPutIn}
 use Rattle.fbc_rows.proofs.NoLinkForms.{no_link_clear, no_link_cut, no_link_first, no_link_move, no_link_own}

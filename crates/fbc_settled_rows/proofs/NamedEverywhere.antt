@@ -6,8 +6,8 @@ use Rattle.fbc_kinds.specs.Reach.{DataRole, Reaches}
 use Rattle.fbc_kinds.specs.View.{View, cell_at, named_in, pointer_of}
 use Rattle.fbc_views.proofs.HeaderStands.{size_is}
 use Rattle.fbc_legal.specs.Scene.{Scene, newest_at}
-use Rattle.fbc_cut.specs.Cut.{Cut, view}
-use Rattle.fbc_cut.specs.Upheld.{IsUpheld}
+use Rattle.fbc_closed_cuts.specs.Cut.{Cut, view}
+use Rattle.fbc_closed_cuts.specs.Upheld.{IsUpheld}
 use Rattle.fbc_origins.proofs.PutPages.{every_draft, named-reached, newest-closed, newest-shape, newest-sound, newest-view}
 use Rattle.fbc_settled_rows.specs.Rows.{NamesRow, RowsAreNamed, SettledRowsAreNamed}
 

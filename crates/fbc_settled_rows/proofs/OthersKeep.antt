@@ -16,7 +16,7 @@ use Rattle.fbc_views.specs.Allowed.{Fits}
 use Rattle.fbc_views.specs.Facing.{IsLinked}
 use Rattle.fbc_views.proofs.Fitted.{adds_inventory, adds_pointer, adds_tip, frees_mark, given_some, raises_next, takes_mark}
 use Rattle.fbc_views.proofs.SameVersions.{ShowsVersions, reached_holds, top_holds}
-use Rattle.fbc_cut.specs.Growth.{HasGrown, HasRelation}
+use Rattle.fbc_closed_cuts.specs.Growth.{HasGrown, HasRelation}
 
 module _ (before after : View) (sound : IsSound before) (kept : ShowsVersions before after) where
   -- the versions that are reached stand

@@ -24,9 +24,9 @@ use Rattle.fbc_legal.specs.Guards.{GuardOfEdit}
 use Rattle.fbc_legal.specs.Leans.{LeansOn}
 use Rattle.fbc_legal.specs.Rows.{IsEditOfRow}
 use Rattle.fbc_legal.specs.Scene.{Scene, newest_at}
-use Rattle.fbc_cut.specs.Growth.{GrowsInto, IsGrownHeader}
-use Rattle.fbc_cut.specs.Upheld.{IsUpheld}
-use Rattle.fbc_cut.proofs.Growing.{grows-self, header-grows}
+use Rattle.fbc_closed_cuts.specs.Growth.{GrowsInto, IsGrownHeader}
+use Rattle.fbc_closed_cuts.specs.Upheld.{IsUpheld}
+use Rattle.fbc_closed_cuts.proofs.Growing.{grows-self, header-grows}
 use Rattle.fbc_origins.proofs.CellsAfter.{cells-left}
 use Rattle.fbc_origins.specs.Owed.{leaves_cells}
 use Rattle.fbc_origins.proofs.NewestFits.{newest-fits}

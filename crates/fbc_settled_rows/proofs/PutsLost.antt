@@ -23,10 +23,10 @@ use Rattle.fbc_legal.specs.Leans.{CutLeans, LeadsTo, MayCut}
 use Rattle.fbc_legal.specs.Rows.{IsBackout, IsCut, IsNewVersion, IsOwnChange, IsPut, as_back, without_link}
 use Rattle.fbc_legal.specs.Scene.{Scene, born_at, newest_at}
 use Rattle.fbc_legal.specs.Stamps.{Stamps, is_same_flag, takes_link}
-use Rattle.fbc_cut.specs.Cut.{Cut, IsClosedCut, view}
-use Rattle.fbc_cut.specs.Owed.{SeesEdit}
-use Rattle.fbc_cut.specs.Upheld.{IsUpheld}
-use Rattle.fbc_cut.specs.Views.{view_stamps}
+use Rattle.fbc_closed_cuts.specs.Cut.{Cut, IsClosedCut, view}
+use Rattle.fbc_closed_cuts.specs.Owed.{SeesEdit}
+use Rattle.fbc_closed_cuts.specs.Upheld.{IsUpheld}
+use Rattle.fbc_closed_cuts.specs.Views.{view_stamps}
 use Rattle.fbc_numbers.specs.Numbers.{IsNumbered}
 use Rattle.fbc_rows.specs.Differences.{IsPlace}
 use Rattle.fbc_rows.specs.Puts.{IsPutIn}

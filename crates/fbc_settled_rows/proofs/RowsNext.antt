@@ -1,5 +1,5 @@
--- Rows that the file names are named after edits of cells, and after acts that write nothing.
-use Rattle.std.proofs.Common.{◌≡◌, ◌≢◌, ◌∙◌, ◌⊎◌, if◌then◌else◌, ℕ, Bool, true, false, [], ◌∷◌, Option, Some, None, refl, sym, subst}
+-- Rows that the file names are named before the first event, and in each view that sees an edit of a cell.
+use Rattle.std.proofs.Common.{◌≡◌, ◌∙◌, if◌then◌else◌, ℕ, Bool, true, false, [], Option, Some, None, refl, sym, subst}
 use Rattle.std.proofs.Math.Path.{fun_ext}
 use Rattle.std.proofs.lemmas.Option.{same_Some}
 use Rattle.fbc_kinds.specs.declared.edits.Edit.TheVariants.{ClearCell, PutCell}
@@ -7,30 +7,24 @@ use Rattle.fbc_kinds.specs.declared.pages.Cell.{Cell}
 use Rattle.fbc_kinds.specs.declared.pages.Page.{Page}
 use Rattle.fbc_kinds.specs.declared.shapes.Shape.{Shape}
 use Rattle.fbc_kinds.specs.DataSpelling.{empty_cell}
-use Rattle.fbc_kinds.specs.View.{View, cell_at, is_top}
+use Rattle.fbc_kinds.specs.View.{View, cell_at}
 use Rattle.fbc_views.specs.Allowed.{Fits}
 use Rattle.fbc_views.specs.Edited.{with_page}
-use Rattle.fbc_world.specs.History.{History, Moment}
 use Rattle.fbc_world.specs.PageCell.{newest_in}
-use Rattle.fbc_world.specs.World.{page_after, world_of}
+use Rattle.fbc_world.specs.World.{page_after}
 use Rattle.fbc_legal.specs.Guards.{GuardOfEdit}
-use Rattle.fbc_legal.specs.Legal.{IsLegal}
 use Rattle.fbc_legal.specs.Rows.{IsPut}
 use Rattle.fbc_legal.specs.Scene.{Scene, newest_at, scene_of}
 use Rattle.fbc_legal.specs.Stamps.{Stamps}
-use Rattle.fbc_cut.specs.Cut.{view}
-use Rattle.fbc_cut.specs.Owed.{SeesEdit}
-use Rattle.fbc_cut.specs.Views.{is_edit}
-use Rattle.fbc_numbers.specs.Numbers.{is_committed_in}
+use Rattle.fbc_closed_cuts.specs.Owed.{SeesEdit}
 use Rattle.fbc_rows.specs.Puts.{IsClearIn, IsPutIn}
-use Rattle.fbc_rows.proofs.OneCell.{one_cell_cleared, one_cell_put}
+use Rattle.fbc_rows.proofs.OneCell.{IsOneCell, one_cell_cleared, one_cell_put}
 use Rattle.fbc_origins.specs.Origins.{EveryView}
 use Rattle.fbc_origins.specs.Owed.{IsInOrder}
 use Rattle.fbc_origins.proofs.ClearsAllowed.{IsUnnamed, clears-unnamed}
 use Rattle.fbc_origins.proofs.NewestFits.{newest-fits}
 use Rattle.fbc_origins.proofs.PutPages.{IsPutPage, put-page}
 use Rattle.fbc_origins.proofs.Seeing.{seen-shape, seen-sound, stands-seen}
-use Rattle.fbc_origins.proofs.ViewsNext.{views-acted}
 use Rattle.fbc_settled_rows.specs.Rows.{IsSettledTop, NamesRow, RowsAreNamed}
 use Rattle.fbc_settled_rows.proofs.ClearsLost.{IsClearPage, clear-page}
 use Rattle.fbc_settled_rows.proofs.PutsNamed.{HasSettledTop, IsNamedFrom, one-cell-named, put-settled}
@@ -40,7 +34,7 @@ pub record IsStanding (at : Scene) (page cell : ℕ) : Type 0 where
   pub old : Cell
   pub stands : cell_at (newest_at at) page cell ≡ Some old
 
-standing : (at : Scene) (owner page cell : ℕ) (content : Cell) → IsPut at owner page cell content → IsStanding at page cell
+pub standing : (at : Scene) (owner page cell : ℕ) (content : Cell) → IsPut at owner page cell content → IsStanding at page cell
 standing at owner page cell content (IsPut.first f) = record { old = f.old; stands = f.stands }
 standing at owner page cell content (IsPut.over_own f) = record { old = f.old; stands = f.stands }
 standing at owner page cell content (IsPut.over f) = record { old = f.old; stands = f.stands }
@@ -64,61 +58,59 @@ rows-first shape file cut relation sequence pointer page cell top closed row sta
     first_page true kept = refl
     first_page false kept = refl
 
--- the same beside any file
-abbrev pub IsNamedBeside : Shape → View → View → Type 0
-IsNamedBeside shape kept seen = (relation sequence pointer page cell : ℕ) (top : Cell) → NamesRow shape seen relation sequence pointer page → cell_at seen page cell ≡ Some top
-    → (is_top top.flag ≡ true) × ((top.back_page ≢ 0) ⊎ (is_committed_in kept top.number ≡ true)) → NamesRow shape kept relation sequence pointer page
+module _ (at : Scene) (order : IsInOrder at) (owner page : ℕ) (made : Page) (seen : View) (stamps : ℕ → Stamps) (sees : SeesEdit at owner page seen stamps) where
+  -- in the view a put changes the one cell
+  pub put-one : (cell : ℕ) (content old : Cell) → cell_at (newest_at at) page cell ≡ Some old → GuardOfEdit at owner page (PutCell cell content) → page_after at.shape at.world owner page (PutCell cell content) ≡ Some made
+      → IsOneCell seen (with_page seen page made) page cell old content
+  put-one cell content old stands g is = one_cell_put put (stands-seen at owner page seen stamps sees cell old stands) where
+    p : IsPutPage at owner page cell content
+    p = put-page at owner page cell content g
 
--- an act that edits nothing and leaves the file
-pub rows-acted : (shape : Shape) (file : View) (before : History) (moment : Moment) → IsLegal shape file (moment ∷ before) → is_edit moment.event.act ≡ false
-    → (world_of shape file (moment ∷ before)).kept ≡ (world_of shape file before).kept → RowsAreNamed (scene_of shape file before) → RowsAreNamed (scene_of shape file (moment ∷ before))
-rows-acted shape file before moment legal plain same rows =
-    views-rows (scene_of shape file (moment ∷ before))
-    (λ cut closed. subst (λ (kept : View). IsNamedBeside shape kept (view (world_of shape file (moment ∷ before)) cut)) (sym same)
-    (views-acted shape file before (λ seen stamps. IsNamedBeside shape (world_of shape file before).kept seen) moment legal plain (rows-views (scene_of shape file before) rows) cut closed))
+    put : IsPutIn at.shape seen page cell content made
+    put = record {
+      of_shape = seen-shape at owner page seen stamps sees order.upheld;
+      sound = seen-sound at owner page seen stamps sees order.upheld;
+      page = p.data_page;
+      stands = sees.edited_page.page ∙ p.stands;
+      fits = subst (λ (o : Option Page). Fits at.shape (PutCell cell content) o made) p.stands (newest-fits at order.upheld.coherent owner page (PutCell cell content) made g is);
+    }
 
-module _ (at : Scene) (order : IsInOrder at) (owner page : ℕ) (made : Page) (seen : View) (stamps : ℕ → Stamps) (sees : SeesEdit at owner page seen stamps) (each : IsNamedFrom at seen) where
-  -- a version is put
-  pub put-named : (cell : ℕ) (content : Cell) → GuardOfEdit at owner page (PutCell cell content) → page_after at.shape at.world owner page (PutCell cell content) ≡ Some made → IsNamedFrom at (with_page seen page made)
-  put-named cell content g is =
-      one-cell-named at seen (with_page seen page made) page cell was.old content (one_cell_put put (stands-seen at owner page seen stamps sees cell was.old was.stands)) settles each
-    where
+  -- so does a clearing, which leaves the cell empty
+  pub record IsOneCleared (cell : ℕ) : Type 0 where
+    pub old : Cell
+    pub one : IsOneCell seen (with_page seen page made) page cell old empty_cell
+
+  pub clear-one : (cell : ℕ) → GuardOfEdit at owner page (ClearCell cell) → page_after at.shape at.world owner page (ClearCell cell) ≡ Some made → IsOneCleared cell
+  clear-one cell g is = record { old = was.old; one = one_cell_cleared clear was.stands } where
+    was : IsUnnamed seen page cell
+    was = clears-unnamed at order owner page cell g seen stamps sees
+
+    p : IsClearPage at owner page cell made
+    p = clear-page at owner page cell made order.upheld g is
+
+    clear : IsClearIn at.shape seen page cell made
+    clear = record {
+      of_shape = seen-shape at owner page seen stamps sees order.upheld;
+      sound = seen-sound at owner page seen stamps sees order.upheld;
+      page = p.data_page;
+      stands = sees.edited_page.page ∙ p.stands;
+      fits = p.fits;
+    }
+
+  module _ (each : IsNamedFrom at seen) where
+    -- a version is put
+    pub put-named : (cell : ℕ) (content : Cell) → GuardOfEdit at owner page (PutCell cell content) → page_after at.shape at.world owner page (PutCell cell content) ≡ Some made → IsNamedFrom at (with_page seen page made)
+    put-named cell content g is = one-cell-named at seen (with_page seen page made) page cell was.old content (put-one cell content was.old was.stands g is) settles each where
       was : IsStanding at page cell
       was = standing at owner page cell content g.row
-
-      p : IsPutPage at owner page cell content
-      p = put-page at owner page cell content g
-
-      put : IsPutIn at.shape seen page cell content made
-      put = record {
-        of_shape = seen-shape at owner page seen stamps sees order.upheld;
-        sound = seen-sound at owner page seen stamps sees order.upheld;
-        page = p.data_page;
-        stands = sees.edited_page.page ∙ p.stands;
-        fits = subst (λ (o : Option Page). Fits at.shape (PutCell cell content) o made) p.stands (newest-fits at order.upheld.coherent owner page (PutCell cell content) made g is);
-      }
 
       settles : IsSettledTop at content → IsSettledTop at was.old
       settles settled =
           let had : HasSettledTop at page cell = put-settled at order.numbered owner page cell content g g.row settled in
           subst (IsSettledTop at) (same_Some had.old was.old (sym had.stands ∙ was.stands)) had.settled
 
-  -- a cell is cleared
-  pub clear-named : (cell : ℕ) → GuardOfEdit at owner page (ClearCell cell) → page_after at.shape at.world owner page (ClearCell cell) ≡ Some made → IsNamedFrom at (with_page seen page made)
-  clear-named cell g is =
-      one-cell-named at seen (with_page seen page made) page cell was.old empty_cell (one_cell_cleared clear was.stands) (λ settled. absurd (let no = settled.0 in cc)) each
-    where
-      was : IsUnnamed seen page cell
-      was = clears-unnamed at order owner page cell g seen stamps sees
-
-      p : IsClearPage at owner page cell made
-      p = clear-page at owner page cell made order.upheld g is
-
-      clear : IsClearIn at.shape seen page cell made
-      clear = record {
-        of_shape = seen-shape at owner page seen stamps sees order.upheld;
-        sound = seen-sound at owner page seen stamps sees order.upheld;
-        page = p.data_page;
-        stands = sees.edited_page.page ∙ p.stands;
-        fits = p.fits;
-      }
+    -- a cell is cleared
+    pub clear-named : (cell : ℕ) → GuardOfEdit at owner page (ClearCell cell) → page_after at.shape at.world owner page (ClearCell cell) ≡ Some made → IsNamedFrom at (with_page seen page made)
+    clear-named cell g is =
+        let was : IsOneCleared cell = clear-one cell g is in
+        one-cell-named at seen (with_page seen page made) page cell was.old empty_cell was.one (λ settled. absurd (let no = settled.0 in cc)) each

@@ -12,10 +12,10 @@ use Rattle.fbc_world.specs.World.{World}
 use Rattle.fbc_legal.specs.Leans.{LeadsTo}
 use Rattle.fbc_legal.specs.Scene.{Scene, born_at, meant_at, newest_at}
 use Rattle.fbc_legal.specs.Stamps.{PageStamps, Stamps, newest_stamps}
-use Rattle.fbc_cut.specs.Cut.{Cut, IsClosedCut, view}
-use Rattle.fbc_cut.specs.Owed.{IsSeenKept, IsSeenNewest}
-use Rattle.fbc_cut.specs.Upheld.{IsUpheld}
-use Rattle.fbc_cut.specs.Views.{view_stamps}
+use Rattle.fbc_closed_cuts.specs.Cut.{Cut, IsClosedCut, view}
+use Rattle.fbc_closed_cuts.specs.Owed.{IsSeenKept, IsSeenNewest}
+use Rattle.fbc_closed_cuts.specs.Upheld.{IsUpheld}
+use Rattle.fbc_closed_cuts.specs.Views.{view_stamps}
 use Rattle.fbc_rows.proofs.NoNewLinks.{names_none}
 use Rattle.fbc_origins.specs.Origins.{CellsKeepVersions, LinksAreMeant}
 use Rattle.fbc_origins.proofs.PutPages.{every_draft, newest-closed, newest-sound, newest-view}

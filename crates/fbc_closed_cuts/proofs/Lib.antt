@@ -1,0 +1,16 @@
+pub mod Closing
+pub mod WriteViews
+pub mod DeathViews
+pub mod ActViews
+pub mod EditViews
+pub mod LeanViews
+pub mod Lineage
+pub mod Growing
+pub mod Unnamed
+pub mod HeadersGrow
+pub mod CutLaws
+pub mod MarksKept
+pub mod UpheldActs
+pub mod UpheldEdits
+pub mod UpheldLegal
+pub mod Firmness

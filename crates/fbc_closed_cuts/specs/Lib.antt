@@ -1,0 +1,6 @@
+pub mod Cut
+pub mod Views
+pub mod Growth
+pub mod Upheld
+pub mod Owed
+pub mod Firm

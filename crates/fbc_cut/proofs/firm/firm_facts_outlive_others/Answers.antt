@@ -1,5 +1,0 @@
-use Rattle.fbc_cut.proofs.Firmness.{firm-stays}
-use Rattle.fbc_cut.proofs.firm.firm_facts_outlive_others.Goals as goal
-
-pub returns : goal.returns
-returns c = λ shape file before moment owner passes legal apart plain firm. firm-stays shape file before moment owner legal apart plain passes firm

@@ -1,5 +1,0 @@
-use Rattle.fbc_cut.proofs.HeadersGrow.{headers-grow}
-use Rattle.fbc_cut.proofs.views.headers_grow.Goals as goal
-
-pub returns : goal.returns
-returns c = λ shape file history legal. headers-grow shape file history legal

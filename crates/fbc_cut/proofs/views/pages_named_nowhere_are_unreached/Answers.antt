@@ -1,6 +1,0 @@
-use Rattle.fbc_cut.proofs.CutLaws.{named_nowhere-unreached}
-use Rattle.fbc_cut.proofs.views.pages_named_nowhere_are_unreached.Goals as goal
-
-pub returns : goal.returns
-returns c = λ shape file before owner page other edit landed content cut legal is closed in_cut nowhere apart none.
-    named_nowhere-unreached shape file before owner page edit landed content cut is other legal closed in_cut nowhere apart none

@@ -1,0 +1,14 @@
+pub mod AlikeOnes
+pub mod BegunOnes
+pub mod CarriedOut
+pub mod Committing
+pub mod DoneBeside
+pub mod FrontOwn
+pub mod MarkedOnes
+pub mod Older
+pub mod Places
+pub mod RowsGone
+pub mod RowsKept
+pub mod SameViews
+pub mod Shown
+pub mod Steps

@@ -1,0 +1,4 @@
+pub mod Ended
+pub mod Orderly
+pub mod Reading
+pub mod Runs

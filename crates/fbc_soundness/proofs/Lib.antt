@@ -1,0 +1,2 @@
+pub mod FirstOrigins
+pub mod NoLinks
