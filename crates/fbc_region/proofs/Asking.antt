@@ -39,7 +39,7 @@ come_one : (h : History) (rs : List Request) (r : Request) → AllByRecursion (I
 come_one h [] r all it = (it, tt)
 come_one h (x ∷ rs) r all it = (all.0, come_one h rs r all.1 it)
 
-come_entered : (h : History) (rs : List Request) (owner : ℕ) (resource : Resource) (word : ℕ) → is_alive h owner ≡ true → owner ≤ lives.entered h
+pub come_entered : (h : History) (rs : List Request) (owner : ℕ) (resource : Resource) (word : ℕ) → is_alive h owner ≡ true → owner ≤ lives.entered h
     → AllByRecursion (IsOfCome h) rs → AllByRecursion (IsOfCome h) (entered rs owner resource word)
 come_entered h rs owner resource word alive came all = go (is_some (find (is_of owner resource) rs)) where
   go : (b : Bool) → AllByRecursion (IsOfCome h) (if b then rs else rs ++ new_request owner resource word ∷ [])
@@ -60,7 +60,7 @@ all_live h rs all = All-from_recursion (λ (r : Request). r.alive ≡ true → h
 
 -- a grant at once
 module _ (owner : ℕ) (resource : Resource) (level : Level) (word : ℕ) where
-  own_key : is_key owner resource owner resource ≡ true
+  pub own_key : is_key owner resource owner resource ≡ true
   own_key = rw (same_resource-self resource) (grind (arith, nat_tests))
 
   is_entered : (rs : List Request) → is_some (find (is_of owner resource) (entered rs owner resource word)) ≡ true
@@ -73,7 +73,7 @@ module _ (owner : ℕ) (resource : Resource) (level : Level) (word : ℕ) where
   still_some None is = absurd cc
   still_some (Some r) is = refl
 
-  waits_there : (rs : List Request) → is_some (find (is_of owner resource) (map (with_waiting owner resource level) (entered rs owner resource word))) ≡ true
+  pub waits_there : (rs : List Request) → is_some (find (is_of owner resource) (map (with_waiting owner resource level) (entered rs owner resource word))) ≡ true
   waits_there rs =
       ap is_some (find_map (is_of owner resource) (with_waiting owner resource level) (λ x. refl) (entered rs owner resource word))
       ∙ still_some (find (is_of owner resource) (entered rs owner resource word)) (is_entered rs)

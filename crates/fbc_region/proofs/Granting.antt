@@ -9,9 +9,11 @@ use Rattle.fbc_levels.specs.declared.resources.Resource.{Resource}
 use Rattle.fbc_levels.specs.LockState.{LockState, IsLawful, granted_of, holder_of, is_of, request_of}
 use Rattle.fbc_levels.specs.Resources.{is_same_resource}
 use Rattle.fbc_lock_table.specs.Effects.{MayGrant, after_grant, granting}
-use Rattle.fbc_lock_table.proofs.Lawful.{the_request, wait_granted_lawful}
+use Rattle.fbc_lock_table.proofs.Lawful.{wait_granted_lawful}
+use Rattle.fbc_lock_table.proofs.Pairs.{find-only}
 use Rattle.fbc_lock_table.proofs.Ways.{is_of-self, same_resource}
 use Rattle.fbc_owner_queues.specs.Grants.{is_clear, is_grantable, next_grant}
+use Rattle.fbc_world.proofs.Apart.{IsApart, once}
 use Rattle.fbc_world.proofs.Found.{find_map, find_passes}
 use Rattle.fbc_region.specs.Granting.{is_live_wait, waits_in}
 
@@ -102,21 +104,39 @@ grantable_waits s resource r is =
     let parts = both (is_same_resource r.resource resource) r.alive (is_clear s r) is in
     rw (parts.1, some_wait s r.waiting r.owner r.resource parts.2) refl
 
-module _ (s : LockState) (lawful : IsLawful s) (resource : Resource) (r : Request) (next : next_grant s resource ≡ Some r) where
-  passes : is_grantable s resource r ≡ true
-  passes = find_passes (is_grantable s resource) s.requests r next
+-- each request is the one of its owner for its resource
+pub the_one : (s : LockState) → IsApart s → (owner : ℕ) (resource : Resource) → All (λ x. is_of owner resource x ≡ true → request_of s owner resource ≡ Some x) s.requests
+the_one s apart owner resource = find-only (is_of owner resource) s.requests (once owner resource s.requests apart)
 
+-- what is granted next, where no owner has two requests for one resource
+module _ (s : LockState) (apart : IsApart s) (resource : Resource) (r : Request) (next : next_grant s resource ≡ Some r) where
   parts : (is_same_resource r.resource resource ≡ true) × (r.alive ≡ true) × (is_clear s r ≡ true)
-  parts = both (is_same_resource r.resource resource) r.alive (is_clear s r) passes
+  parts = both (is_same_resource r.resource resource) r.alive (is_clear s r) (find_passes (is_grantable s resource) s.requests r next)
 
+  pub resource_apart : r.resource ≡ resource
+  resource_apart = same_resource r.resource resource parts.0
+
+  pub alive_apart : r.alive ≡ true
+  alive_apart = parts.1
+
+  pub some_apart : is_some r.waiting ≡ true
+  some_apart = some_wait s r.waiting r.owner r.resource parts.2
+
+  pub way_apart : IfSome r.waiting (λ level. holder_of s r.owner r.resource level ≡ None)
+  way_apart = free_way s r.waiting r.owner r.resource parts.2
+
+  pub only_apart : request_of s r.owner r.resource ≡ Some r
+  only_apart = all_found (λ x. is_of r.owner r.resource x ≡ true → request_of s r.owner r.resource ≡ Some x) (is_grantable s resource) s.requests r (the_one s apart r.owner r.resource) next (is_of-self r)
+
+module _ (s : LockState) (lawful : IsLawful s) (resource : Resource) (r : Request) (next : next_grant s resource ≡ Some r) where
   pub same_next : r.resource ≡ resource
-  same_next = same_resource r.resource resource parts.0
+  same_next = resource_apart s lawful.apart resource r next
 
   pub only_next : request_of s r.owner r.resource ≡ Some r
-  only_next = all_found (λ x. is_of r.owner r.resource x ≡ true → request_of s r.owner r.resource ≡ Some x) (is_grantable s resource) s.requests r (the_request s r.owner r.resource lawful) next (is_of-self r)
+  only_next = only_apart s lawful.apart resource r next
 
   pub may_next : MayGrant s r.owner r.resource
-  may_next = rw only_next (free_way s r.waiting r.owner r.resource parts.2)
+  may_next = rw only_next (way_apart s lawful.apart resource r next)
 
   pub lawful_next : IsLawful (after_grant s r.owner r.resource)
   lawful_next = wait_granted_lawful s r.owner r.resource may_next lawful
@@ -129,7 +149,7 @@ module _ (s : LockState) (lawful : IsLawful s) (resource : Resource) (r : Reques
 
   -- the level that is granted then is the one that was waited for
   pub level_next : r.waiting ≡ Some (granted_of (after_grant s r.owner r.resource) r.owner resource)
-  level_next = subst (λ res. r.waiting ≡ Some (granted_of (after_grant s r.owner r.resource) r.owner res)) same_next (rw found_after (rw (is_of-self r) (level r.waiting (some_wait s r.waiting r.owner r.resource parts.2)))) where
+  level_next = subst (λ res. r.waiting ≡ Some (granted_of (after_grant s r.owner r.resource) r.owner res)) same_next (rw found_after (rw (is_of-self r) (level r.waiting (some_apart s lawful.apart resource r next)))) where
     level : (w : Option Level) → is_some w ≡ true → w ≡ Some (unwrap_or w r.granted)
     level None is = absurd cc
     level (Some l) is = refl

@@ -7,7 +7,6 @@ use Rattle.fbc_levels.specs.declared.resources.Request.{Request}
 use Rattle.fbc_levels.specs.declared.resources.Resource.{Resource}
 use Rattle.fbc_levels.specs.LockState.{LockState, IsLawful, is_of, request_of}
 use Rattle.fbc_lock_table.specs.Effects.{after_grant, entered, granting}
-use Rattle.fbc_lock_table.proofs.Lawful.{the_request}
 use Rattle.fbc_owner_queues.specs.Grants.{next_grant}
 use Rattle.fbc_legal.specs.Lives.{living}
 use Rattle.fbc_legal.specs.Lives as lives
@@ -16,9 +15,10 @@ use Rattle.fbc_world.specs.declared.events.Event.{Event}
 use Rattle.fbc_world.specs.History.{History, Recording, happens, recorded}
 use Rattle.fbc_world.specs.Locks.{granted_to, locks_of, with_grant}
 use Rattle.fbc_world.specs.Owners.{is_alive}
+use Rattle.fbc_world.proofs.Apart.{IsApart}
 use Rattle.fbc_region.specs.Granting.{GrantedOn, ended, granted}
 use Rattle.fbc_region.specs.Kept.{IsOfCome}
-use Rattle.fbc_region.proofs.Granting.{lawful_next, only_next, same_next}
+use Rattle.fbc_region.proofs.Granting.{lawful_next, only_apart, resource_apart, the_one}
 use Rattle.fbc_region.proofs.Pushed.{recorded_push}
 
 -- a history with these events more, none of them a landing
@@ -46,12 +46,12 @@ map_same f g (x ∷ rs) all = rw (All-head (λ y. f y ≡ g y) x rs all, map_sam
 unentered : (rs : List Request) (owner : ℕ) (resource : Resource) (r : Request) → find (is_of owner resource) rs ≡ Some r → entered rs owner resource 0 ≡ rs
 unentered rs owner resource r is = rw is refl
 
-pub grant_step : (s : LockState) → IsLawful s → (resource : Resource) (r : Request) (level : Level) → next_grant s resource ≡ Some r → r.waiting ≡ Some level
+pub step_apart : (s : LockState) → IsApart s → (resource : Resource) (r : Request) (level : Level) → next_grant s resource ≡ Some r → r.waiting ≡ Some level
     → after_grant s r.owner r.resource ≡ granted_to s r.owner resource level
-grant_step s lawful resource r level next waits =
-    let there : request_of s r.owner r.resource ≡ Some r = only_next s lawful resource r next in
-    let each : All (λ x. granting r.owner r.resource x ≡ with_grant r.owner r.resource level x) s.requests = λ k d within. granted_same r.owner r.resource level _ (λ is. waited _ (sym (the_request s r.owner r.resource lawful k d within is) ∙ there)) in
-    subst (λ res. after_grant s r.owner r.resource ≡ granted_to s r.owner res level) (same_next s lawful resource r next)
+step_apart s apart resource r level next waits =
+    let there : request_of s r.owner r.resource ≡ Some r = only_apart s apart resource r next in
+    let each : All (λ x. granting r.owner r.resource x ≡ with_grant r.owner r.resource level x) s.requests = λ k d within. granted_same r.owner r.resource level _ (λ is. waited _ (sym (the_one s apart r.owner r.resource k d within is) ∙ there)) in
+    subst (λ res. after_grant s r.owner r.resource ≡ granted_to s r.owner res level) (resource_apart s apart resource r next)
     (ap (λ rs. record s { requests = rs }) (map_same (granting r.owner r.resource) (with_grant r.owner r.resource level) s.requests each ∙ ap (map (with_grant r.owner r.resource level)) (sym (unentered s.requests r.owner r.resource r there)))) where
       waited : (x : Request) → Some x ≡ Some r → x.waiting ≡ Some level
       waited x is = let same : x ≡ r = cc in rw same waits
@@ -93,7 +93,7 @@ grants_follow resource _ _ _ (granted s later grants rest r level next waits is 
 
       one : FollowsIt (after_grant s r.owner r.resource) (happens r.owner (Grant resource level) false ∷ h)
       one = record {
-        requests = grant_step s lawful resource r level next waits ∙ ap (λ t. granted_to t r.owner resource level) f.requests;
+        requests = step_apart s lawful.apart resource r level next waits ∙ ap (λ t. granted_to t r.owner resource level) f.requests;
         come = come_same h (happens r.owner (Grant resource level) false ∷ h) same_one (map (granting r.owner r.resource) s.requests) (come_map h (granting r.owner r.resource) (λ x. refl) (λ x. refl) s.requests f.come);
       }
 

@@ -4,3 +4,4 @@ pub mod Granting
 pub mod Answering
 pub mod Stepping
 pub mod Kept
+pub mod Lawful

@@ -1,10 +1,12 @@
 //! The region: what all attachments share, and the calls that read it.
 
-ghost use Rattle.std.specs.Prelude.{◌≡◌, ◌↔◌, ◌≤◌, ◌++◌, ◌∷◌, [], ℕ, suc, IsTrue, IsSome, true, false, length, IfOk, IfErr, OnOk};
+ghost use Rattle.std.specs.Prelude.{◌≡◌, ◌↔◌, ◌≤◌, ◌++◌, ◌∷◌, [], ℕ, suc, Bool, List, Option, IsTrue, IsSome, true, false, length, IfOk, IfErr, OnOk};
 ghost use Rattle.fbc_blocking.specs.Callbacks.{blocked_by};
+ghost use Rattle.fbc_kinds.specs.View.{View};
 ghost use Rattle.fbc_legal.specs.Lives.{entered};
 ghost use Rattle.fbc_outside.specs.Faults.{Rose};
 ghost use Rattle.fbc_region.specs.Adding.{Adds, UsesRoom, by};
+ghost use Rattle.fbc_region.specs.Lawful.{IsLawfulOver, MeetsStep, new_landings};
 ghost use Rattle.fbc_region.specs.Shared.{HasReserved, HasRoom, locks_in};
 ghost use Rattle.fbc_region.specs.Stepping.{MayPerform, PagesComeTo, Performs, StepComesTo};
 ghost use Rattle.fbc_world.specs.declared.answers.Answer.TheVariants as answers;
@@ -67,6 +69,8 @@ impl<D> Region<D> {
         ensures device { IfOk result (λ region. region.device ≡ device) }
         ensures size { IfOk result (λ region. region.size ≡ size) }
         ensures opened { IfOk result (λ region. Adds journal region.journal (by 0 (act.Opened locks) ∷ [])) }
+        ensures legal { (bytes : Option (List ℕ)) (file : View) (landings : List Bool) → IsLawfulOver size bytes journal file landings
+            → IfOk result (λ region. IsLawfulOver region.size bytes region.journal file landings) }
         ensures device_back { IfErr result (λ none. none.device ≡ device) }
         ensures journal_back { IfErr result (λ none. Adds journal none.journal []) }
         ensures spare_back { IfErr result (λ none. journal.spare ≤ none.journal.spare) }
@@ -134,6 +138,8 @@ impl<D> Region<D> {
     pub fn die(&mut self, who: u32)
         requires { is_alive (recorded self.old.journal) who ≡ true }
         ensures died { Adds self.old.journal self.new.journal (by who act.Die ∷ []) }
+        ensures legal { (bytes : Option (List ℕ)) (file : View) (landings : List Bool) → IsLawfulOver self.old.size bytes self.old.journal file landings
+            → IsLawfulOver self.new.size bytes self.new.journal file landings }
         ensures reserved { (n : ℕ) → HasReserved self.old.journal n → HasReserved self.new.journal n }
         ensures device { self.new.device ≡ self.old.device }
         ensures size { self.new.size ≡ self.old.size }
@@ -153,6 +159,9 @@ impl<D: Device> Region<D> {
         ensures step { Performs self.old.journal self.new.journal who local.now result ask }
         ensures reserved { (n : ℕ) → HasReserved self.old.journal (suc n) → HasReserved self.new.journal n }
         ensures pages { PagesComeTo self.old.size (D.bytes self.old.device) (D.bytes self.new.device) (D.landings self.old.device) (D.landings self.new.device) image.old image.new result ask }
+        ensures legal { (file : View) (landings : List Bool) → IsLawfulOver self.old.size (D.bytes self.old.device) self.old.journal file landings
+            → MeetsStep self.old.journal file landings who local.now image.old ask
+            → IsLawfulOver self.new.size (D.bytes self.new.device) self.new.journal file (landings ++ new_landings (D.landings self.old.device) (D.landings self.new.device)) }
         ensures size { self.new.size ≡ self.old.size }
         ensures image { length image.new ≡ length image.old }
         ensures reach { D.reach self.new.device ≡ D.reach self.old.device }
