@@ -1,1 +1,4 @@
 mod Lengths
+mod Requests
+mod Stepped
+mod Ready

@@ -37,6 +37,13 @@ impl Start {
     }
 }
 
+impl Spent {
+    /// How many of so many things were done in a second of the processor.
+    pub fn rate(&self, count: u32) -> f64 {
+        f64::from(count) / self.processor.as_secs_f64()
+    }
+}
+
 impl Display for Spent {
     fn fmt<W: Write>(&self, f: &mut Formatter<W>) -> fmt::Result {
         let clock = self.clock.as_secs_f64();

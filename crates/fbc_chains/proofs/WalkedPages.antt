@@ -28,7 +28,7 @@ use Rattle.fbc_reach.specs.declared.tally.NamedPage.{NamedPage}
 use Rattle.fbc_reach.proofs.DataRoles.{fronts, not_walked, walked_as}
 use Rattle.fbc_reach.proofs.HeaderNamings.{tip_named}
 use Rattle.fbc_reach.proofs.Members.{In, find_some, in_left, in_right}
-use Rattle.fbc_reach.proofs.Shows.{shown_code}
+use Rattle.fbc_spelling.proofs.Shows.{shown_code}
 use Rattle.fbc_reach.proofs.ShownPages.{all_slots, shows}
 use Rattle.fbc_reach.proofs.Walks.{walked_in}
 

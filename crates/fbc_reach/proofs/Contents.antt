@@ -15,7 +15,7 @@ use Rattle.fbc_reach.specs.declared.content.Content.TheVariants.{Other}
 use Rattle.fbc_reach.specs.Content.{content_of, HasAllSlots, IsReadFrom, IsReadOf}
 use Rattle.fbc_reach.specs.Reading.{AreBytesOf}
 use Rattle.fbc_reach.specs.declared.content.PageRead.{PageRead}
-use Rattle.fbc_reach.proofs.Shows.{shown_is, none_is_shown}
+use Rattle.fbc_spelling.proofs.Shows.{shown_is, none_is_shown}
 
 -- a pointer page that bytes show has all its slots
 full_of : (shape : Shape) (number : ℕ) (bytes : List ℕ) (page : Page) → ShowsPage shape number bytes page → HasAllSlots shape.size (content_of (Some page))

@@ -1,5 +1,3 @@
-pub mod Spelled
-pub mod Shows
 pub mod Members
 pub mod SameRoles
 pub mod HeaderNamings

@@ -9,7 +9,7 @@ use Rattle.fbc_kinds.proofs.Tests.{same_from_test, test_of_same, not_of_true}
 use Rattle.fbc_reach.specs.declared.namings.Role.{Role}
 use Rattle.fbc_reach.specs.declared.namings.Role.TheVariants as role
 use Rattle.fbc_reach.specs.Roles.{reached_as, kind_code, is_same_role, has_other_relation, has_other_sequence}
-use Rattle.fbc_reach.proofs.Shows.{code_of}
+use Rattle.fbc_spelling.proofs.Shows.{code_of}
 
 pub both_true : (a b : Bool) → a ≡ true → b ≡ true → (a && b) ≡ true
 both_true true b e f = f

@@ -24,7 +24,7 @@ use Rattle.fbc_reach.specs.declared.namings.Role.{Role}
 use Rattle.fbc_reach.specs.declared.namings.Role.TheVariants as role
 use Rattle.fbc_reach.specs.declared.tally.NamedPage.{NamedPage}
 use Rattle.fbc_reach.specs.declared.tally.Tally.{Tally}
-use Rattle.fbc_reach.proofs.Shows.{shown_code}
+use Rattle.fbc_spelling.proofs.Shows.{shown_code}
 use Rattle.fbc_reach.proofs.ShownPages.{all_slots, shows}
 
 pub and_false : (b : Bool) → (b && false) ≡ false

@@ -4,8 +4,8 @@ ghost use Rattle.std.specs.Prelude.{◌≡◌, IfOk, map, length, Some, None};
 ghost use Rattle.fbc_kinds.specs.HeaderSpelling.{IsShape};
 ghost use Rattle.fbc_reach.specs.Content.{IsReadFrom, content_of, version_of};
 
-use crate::shown::page_shown;
 use fbc_kinds::{Cell, Flag, Listed, Page, PageFault, Rule, Shape, State};
+use fbc_spelling::page_shown;
 use std::alloc::{AllocError, Global};
 
 /// A cell of a data page without its value.

@@ -8,7 +8,6 @@ mod faults;
 mod judging;
 mod namings;
 mod reading;
-mod shown;
 mod tally;
 mod walking;
 

@@ -39,3 +39,5 @@ pub mod LivesEnding
 pub mod PageBytes
 pub mod Showing
 pub mod Staying
+pub mod Admitting
+pub mod StayingAlive

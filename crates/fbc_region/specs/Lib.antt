@@ -5,3 +5,4 @@ pub mod Answering
 pub mod Stepping
 pub mod Kept
 pub mod Lawful
+pub mod Conditions

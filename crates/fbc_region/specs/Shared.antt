@@ -1,5 +1,5 @@
 -- What all attachments share.
-use Rattle.std.specs.Prelude.{ℕ, ◌+◌, ◌*◌, ◌≤◌, Bool, false, List, [], ◌∷◌, reverse, length, if◌then◌else◌}
+use Rattle.std.specs.Prelude.{ℕ, ◌+◌, ◌*◌, ◌≤◌, Bool, false, List, [], ◌∷◌, reverse, length, if◌then◌else◌, Option, Some, None}
 use Rattle.fbc_levels.specs.LockState.{LockState}
 use Rattle.fbc_legal.specs.Lives.{living}
 use Rattle.fbc_world.specs.declared.events.Act.{Act}
@@ -54,3 +54,8 @@ with_landings (event ∷ before) landings =
 -- The history of a journal whose last failed writes landed as a device's last landings say.
 abbrev pub history_of : Recording → List Bool → History
 history_of journal landings = with_landings (reverse journal.events) (reverse landings)
+
+-- The landings that a device tells: one that does not tell its bytes tells none.
+abbrev pub landings_told : Option (List ℕ) → List Bool → List Bool
+landings_told None landings = []
+landings_told (Some bytes) landings = landings

@@ -79,9 +79,18 @@ pub record Performs (before after : Recording) (who : ℕ) (events : List LocalE
   pub local : Adds before between (local_events who events)
   pub step : StepComesTo between after who answer asked
 
+-- Whether a step reads the device, and whether it writes it. Every step calls it once at most.
+abbrev pub is_read : Ask → Bool
+is_read (ask.Read page) = true
+is_read _ = false
+
+abbrev pub is_write : Ask → Bool
+is_write (ask.Write page cause) = true
+is_write _ = false
+
 -- What is read of a page into a buffer of its size: as many bytes as the device has of it, and zeros behind them.
 abbrev pub IsPageRead : Option (List ℕ) → ℕ → List ℕ → ℕ → Type 0
-IsPageRead None at image count = count ≤ length image
+IsPageRead None at image count = (count ≤ length image) × (drop count image ≡ replicate (length image - count) 0)
 IsPageRead (Some bytes) at image count =
     (count ≡ min (length image) (length bytes - at)) × (image ≡ take count (drop at bytes) ++ replicate (length image - count) 0)
 

@@ -1,6 +1,6 @@
 //! Laws of journals: what a region adds keeps them legal. None of these functions does anything.
 
-ghost use Rattle.std.specs.Prelude.{◌≡◌, ◌++◌, ◌∷◌, [], ℕ, Bool, List, Option, true, false};
+ghost use Rattle.std.specs.Prelude.{◌≡◌, ◌≢◌, ◌++◌, ◌∷◌, [], ℕ, Bool, List, Option, true, false};
 ghost use Rattle.fbc_kinds.specs.View.{View};
 ghost use Rattle.fbc_legal.specs.Legal.{IsLegal};
 ghost use Rattle.fbc_region.specs.Adding.{Adds, by};
@@ -8,7 +8,9 @@ ghost use Rattle.fbc_region.specs.Lawful.{AreLandings, IsAtRest, IsLawfulOver, M
 ghost use Rattle.fbc_region.specs.Shared.{history_of};
 ghost use Rattle.fbc_region.specs.Stepping.{Performs};
 ghost use Rattle.fbc_world.specs.declared.answers.Answer.{Answer};
+ghost use Rattle.fbc_world.specs.declared.answers.Answer.TheVariants as answers;
 ghost use Rattle.fbc_world.specs.declared.asks.Ask.{Ask};
+ghost use Rattle.fbc_world.specs.declared.asks.Ask.TheVariants as ask;
 ghost use Rattle.fbc_world.specs.declared.events.Act.TheVariants as act;
 ghost use Rattle.fbc_world.specs.declared.events.LocalEvent.{LocalEvent};
 ghost use Rattle.fbc_world.specs.History.{Recording, recorded};
@@ -58,4 +60,11 @@ pub fn empty_journals_are_lawful()
     ensures { (size : ℕ) (bytes : Option (List ℕ)) (journal : Recording) (file : View) (landings : List Bool)
         → journal.events ≡ [] → size ≡ journal.shape.size → ShowsView journal.shape bytes file
         → IsLawfulOver size bytes journal file landings }
+{}
+
+/// Nobody dies or goes by a step, the one that takes it included, but by leaving and by a write that fails.
+pub fn steps_leave_owners_alive()
+    ensures { (before after : Recording) (who : ℕ) (events : List LocalEvent) (answer : Answer) (asked : Ask)
+        → Performs before after who events answer asked → asked ≢ ask.Leave → answer ≢ answers.WriteFault
+        → (owner : ℕ) → is_alive (recorded before) owner ≡ true → is_alive (recorded after) owner ≡ true }
 {}

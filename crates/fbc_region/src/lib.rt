@@ -4,6 +4,7 @@
 
 mod asks;
 mod chronicles;
+mod conditions;
 mod grants;
 mod journals;
 mod laws;
@@ -18,6 +19,6 @@ pub use journals::{
 };
 pub use laws::{
     deaths_keep_journals_legal, empty_journals_are_lawful, openings_keep_journals_legal,
-    steps_keep_journals_legal,
+    steps_keep_journals_legal, steps_leave_owners_alive,
 };
 pub use regions::{NoRegion, Region};

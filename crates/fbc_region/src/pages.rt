@@ -1,7 +1,7 @@
 //! The steps over the device: a page is read or written.
 
 ghost use Rattle.std.specs.Prelude.{◌≡◌, ◌∷◌, [], ◌+◌, ◌*◌, ◌≤◌, true, length, Bool, ℕ};
-ghost use Rattle.fbc_outside.specs.Faults.{Rose};
+ghost use Rattle.fbc_outside.specs.Faults.{Rose, bump};
 ghost use Rattle.fbc_region.specs.Adding.{Adds, UsesRoom, by};
 ghost use Rattle.fbc_region.specs.Shared.{HasRoom};
 ghost use Rattle.fbc_region.specs.Stepping.{ReadLeaves, WriteLeaves, answers_read, answers_write};
@@ -32,6 +32,8 @@ pub(crate) fn read_page<D: Device>(
     ensures bytes { D.bytes device.new ≡ D.bytes device.old }
     ensures landings { D.landings device.new ≡ D.landings device.old }
     ensures reach { D.reach device.new ≡ D.reach device.old }
+    ensures reads { D.reads device.new ≡ bump (D.reads device.old) }
+    ensures writes { D.writes device.new ≡ D.writes device.old }
     ensures later { D.faults device.old ≤ D.faults device.new }
     ensures fault { result ≡ answers.ReadFault → Rose (D.faults device.old) (D.faults device.new) }
 {
@@ -68,6 +70,8 @@ pub(crate) fn write_page<D: Device>(
     ensures room { UsesRoom ledger.old ledger.new 1 }
     ensures written { WriteLeaves (D.bytes device.old) (D.bytes device.new) (D.landings device.old) (D.landings device.new) (page * size) image.now result }
     ensures reach { D.reach device.new ≡ D.reach device.old }
+    ensures reads { D.reads device.new ≡ D.reads device.old }
+    ensures writes { D.writes device.new ≡ bump (D.writes device.old) }
     ensures later { D.faults device.old ≤ D.faults device.new }
     ensures fault { result ≡ answers.WriteFault → Rose (D.faults device.old) (D.faults device.new) }
 {

@@ -4,11 +4,11 @@ ghost use Rattle.std.specs.Prelude.{◌≡◌, ◌↔◌, ◌≤◌, ◌++◌, �
 ghost use Rattle.fbc_blocking.specs.Callbacks.{blocked_by};
 ghost use Rattle.fbc_kinds.specs.View.{View};
 ghost use Rattle.fbc_legal.specs.Lives.{entered};
-ghost use Rattle.fbc_outside.specs.Faults.{Rose};
+ghost use Rattle.fbc_outside.specs.Faults.{Rose, count_after};
 ghost use Rattle.fbc_region.specs.Adding.{Adds, UsesRoom, by};
 ghost use Rattle.fbc_region.specs.Lawful.{IsLawfulOver, MeetsStep, new_landings};
 ghost use Rattle.fbc_region.specs.Shared.{HasReserved, HasRoom, locks_in};
-ghost use Rattle.fbc_region.specs.Stepping.{MayPerform, PagesComeTo, Performs, StepComesTo};
+ghost use Rattle.fbc_region.specs.Stepping.{MayPerform, PagesComeTo, Performs, StepComesTo, is_read, is_write};
 ghost use Rattle.fbc_world.specs.declared.answers.Answer.TheVariants as answers;
 ghost use Rattle.fbc_world.specs.declared.events.Act.TheVariants as act;
 ghost use Rattle.fbc_world.specs.History.{recorded};
@@ -25,9 +25,9 @@ use std::marker::Model;
 /// What all attachments share, seen by contracts as a `Shared`.
 #[derive(Drop)]
 pub struct Region<D> {
-    device: D,
-    size: u32,
-    ledger: Ledger,
+    pub(crate) device: D,
+    pub(crate) size: u32,
+    pub(crate) ledger: Ledger,
 }
 
 impl<D> Model for Region<D> {
@@ -46,9 +46,9 @@ pub struct NoRegion<D> {
 }
 
 impl<D: Device> Recorded for Region<D> {
-    ghost use Rattle.fbc_region.specs.Shared.{history_of};
+    ghost use Rattle.fbc_region.specs.Shared.{history_of, landings_told};
 
-    ghost history = { λ r. history_of r.journal (D.landings r.device) };
+    ghost history = { λ r. history_of r.journal (landings_told (D.bytes r.device) (D.landings r.device)) };
 }
 
 impl<D> Region<D> {
@@ -165,6 +165,8 @@ impl<D: Device> Region<D> {
         ensures size { self.new.size ≡ self.old.size }
         ensures image { length image.new ≡ length image.old }
         ensures reach { D.reach self.new.device ≡ D.reach self.old.device }
+        ensures reads { D.reads self.new.device ≡ count_after (is_read ask) (D.reads self.old.device) }
+        ensures writes { D.writes self.new.device ≡ count_after (is_write ask) (D.writes self.old.device) }
         ensures later { D.faults self.old.device ≤ D.faults self.new.device }
         ensures read_fault { result ≡ answers.ReadFault → Rose (D.faults self.old.device) (D.faults self.new.device) }
         ensures write_fault { result ≡ answers.WriteFault → Rose (D.faults self.old.device) (D.faults self.new.device) }
@@ -184,6 +186,8 @@ impl<D: Device> Region<D> {
         ensures size { self.new.size ≡ self.old.size }
         ensures image { length image.new ≡ length image.old }
         ensures reach { D.reach self.new.device ≡ D.reach self.old.device }
+        ensures reads { D.reads self.new.device ≡ count_after (is_read ask) (D.reads self.old.device) }
+        ensures writes { D.writes self.new.device ≡ count_after (is_write ask) (D.writes self.old.device) }
         ensures later { D.faults self.old.device ≤ D.faults self.new.device }
         ensures read_fault { result ≡ answers.ReadFault → Rose (D.faults self.old.device) (D.faults self.new.device) }
         ensures write_fault { result ≡ answers.WriteFault → Rose (D.faults self.old.device) (D.faults self.new.device) }

@@ -32,7 +32,7 @@ use Rattle.fbc_reach.specs.Walk.{naming, is_of_page, inventory_namings, tip_nami
 use Rattle.fbc_validator.proofs.Found.{with_damage}
 use Rattle.fbc_reach.proofs.Members.{In}
 use Rattle.fbc_validator.proofs.Places.{contains_in, in_contains}
-use Rattle.fbc_reach.proofs.Shows.{shown_is}
+use Rattle.fbc_spelling.proofs.Shows.{shown_is}
 
 module _ (shape : Shape) (bytes : List ℕ) (view : View) (size : IsPageSize shape.size) (shown : IsViewOf shape bytes view) where
   -- a header that the first page spells is the view's

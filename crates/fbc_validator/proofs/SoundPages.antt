@@ -24,7 +24,7 @@ use Rattle.fbc_chains.specs.Links.{Link, is_relation, is_smaller_back, is_back_v
 use Rattle.fbc_validator.specs.Damage.{in_some_role, has_other_kind, is_named_twice, breaks_future}
 use Rattle.fbc_reach.proofs.Members.{In, any_none, any_some, find_in, find_some}
 use Rattle.fbc_validator.proofs.NoRule.{no_rule_broken}
-use Rattle.fbc_reach.proofs.Shows.{shown_code, unbroken_shown}
+use Rattle.fbc_spelling.proofs.Shows.{shown_code, unbroken_shown}
 use Rattle.fbc_reach.proofs.SameRoles.{as_named, as_named_reached, both_true, own_role, Fits, fits_from}
 use Rattle.fbc_reach.proofs.Reached.{AreSingle, naming_reached, from_data, data_walked}
 use Rattle.fbc_reach.proofs.ShownPages.{all_slots, shows}

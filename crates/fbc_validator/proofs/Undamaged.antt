@@ -16,7 +16,7 @@ use Rattle.fbc_validator.specs.Damage.{in_some_role, broken_page, AreSpelled}
 use Rattle.fbc_reach.proofs.Members.{In, any_false, any_here}
 use Rattle.fbc_validator.proofs.NoRule.{BreaksNone, tests_passed}
 use Rattle.fbc_reach.proofs.ShownPages.{shows}
-use Rattle.fbc_reach.proofs.Shows.{shown_code}
+use Rattle.fbc_spelling.proofs.Shows.{shown_code}
 use Rattle.fbc_reach.proofs.SameRoles.{same_role, has_role_from}
 use Rattle.fbc_reach.proofs.Reached.{AreSingle}
 

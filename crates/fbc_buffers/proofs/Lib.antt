@@ -1,0 +1,4 @@
+pub mod Found
+pub mod Apart
+pub mod Victim
+mod InPlace

@@ -1,0 +1,3 @@
+pub mod KindBytes
+pub mod Shows
+pub mod Within
