@@ -1,0 +1,15 @@
+pub mod Lists
+pub mod Buffers
+pub mod Waiting
+pub mod HeldPairs
+pub mod Changes
+pub mod Dirty
+pub mod Editing
+pub mod Relating
+pub mod Steps
+pub mod Few
+pub mod Headers
+pub mod Low
+pub mod Victims
+pub mod DueWants
+pub mod Conditions

@@ -1,0 +1,7 @@
+pub mod Cache
+pub mod Edits
+pub mod Readers
+pub mod Remembered
+pub mod Takes
+pub mod Use
+pub mod Wants

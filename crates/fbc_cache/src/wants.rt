@@ -1,0 +1,191 @@
+//! Which step is due before a page may be used.
+
+ghost use Rattle.std.specs.Prelude.{◌≡◌, ◌<◌, ◌==◌, ◌↔◌, ◌⊎◌, IsTrue, IfOk, length, true, false};
+ghost use Rattle.std.specs.List.{filter, find};
+ghost use Rattle.std.specs.Option.{option_copied, option_map_or};
+ghost use Rattle.fbc_buffers.specs.declared.buffers.Buffer.{Buffer as ABuffer};
+ghost use Rattle.fbc_buffers.specs.Holding.{buffer_of, is_pinned, is_waiting};
+ghost use Rattle.fbc_world.specs.Holdings as spec;
+ghost use Rattle.fbc_cache.specs.declared.needs.Want.TheVariants as wants;
+ghost use Rattle.fbc_precedence.specs.Precedence.{IsNextToWrite};
+ghost use Rattle.fbc_cache.specs.Wants.{IsDueWant, IsEviction, IsHere, IsUnsettled, MayWant, Wants, WantsBuffer, is_pinned_below, lock_for, suffices, want_held};
+
+use crate::cache::Cache;
+use crate::due::is_page_level;
+use crate::needs::{Need, Want};
+use fbc_buffers::Buffer;
+use fbc_levels::{Level, Resource, Series};
+use fbc_world::{Ask, Cause};
+use std::alloc::AllocError;
+
+impl Cache {
+    /// Whether the page may be used, or the step that is due first: the page's own lowering, the next write for its
+    /// buffer or the lowering of the page that gives its buffer up, the lock, the look, the read.
+    pub fn want(&mut self, need: Need) -> Result<Want, AllocError>
+        requires { MayWant self.old need }
+        ensures same { self.new ≡ self.old }
+        ensures want { IfOk result (Wants self.old need) }
+        ensures here { IfOk result (λ want. (want ≡ wants.Here) ↔ IsHere self.old need) }
+        ensures due { IfOk result (IsDueWant self.old) }
+    {
+        // No page has two buffers, so the one that gives way is not waited for.
+        let _held = self.buffers.held();
+        Ok(self.step_for(&need))
+    }
+
+    /// What a need comes to.
+    fn step_for(&self, need: &Need) -> Want
+        requires { MayWant self.now need.now }
+        ensures { Wants self.now need.now result }
+    {
+        match self.buffers.buffer(need.page) {
+            Some(buffer) => want_held(need, buffer),
+            None => self.want_buffer(need),
+        }
+    }
+
+    /// What a page comes to that has no buffer.
+    fn want_buffer(&self, need: &Need) -> Want
+        requires { MayWant self.now need.now }
+        ensures { WantsBuffer self.now need.now (length self.now.held == self.now.room) result }
+    {
+        if !self.buffers.is_full() {
+            return Want::Must(lock_for(need));
+        }
+        match self.buffers.victim() {
+            Some(victim) => Want::Must(self.eviction(victim, need.page)),
+            None => Want::Must(lock_for(need)),
+        }
+    }
+
+    /// Whether a page may be needed: for another page than one that is waited for it may not, nor where it is pinned in a
+    /// level that does not do, nor where all buffers are pinned.
+    pub fn may_want(&self, need: &Need) -> bool
+        ensures { IsTrue result ↔ MayWant self.now need.now }
+    {
+        is_page_level(need.level)
+            && !self.is_pinned_below(need)
+            && self.is_alone(need.page)
+            && self.has_loose()
+    }
+
+    /// Whether the page is pinned in a level that does not do.
+    fn is_pinned_below(&self, need: &Need) -> bool
+        ensures { result ≡ option_map_or (is_pinned_below need.now.level) (buffer_of self.now.held need.now.page) false }
+    {
+        match self.buffers.buffer(need.page) {
+            Some(buffer) => buffer.is_pinned && !suffices(buffer.level, need.level),
+            None => false,
+        }
+    }
+
+    /// Whether no page but this one is waited for.
+    fn is_alone(&self, page: u32) -> bool
+        ensures { result ≡ option_map_or (λ (b : ABuffer). b.page == page) (find is_waiting self.now.held) true }
+    {
+        match self.waiting() {
+            Some(buffer) => buffer.page == page,
+            None => true,
+        }
+    }
+
+    /// The buffer of the page that is waited for.
+    fn waiting(&self) -> Option<&Buffer>
+        ensures { option_copied result ≡ find is_waiting self.now.held }
+    {
+        self.buffers
+            .held()
+            .iter()
+            .find(|buffer| buffer.wanted.is_some())
+    }
+
+    /// Whether fewer pages are pinned than there are buffers.
+    fn has_loose(&self) -> bool
+        ensures { IsTrue result ↔ (length (filter is_pinned self.now.held) < self.now.room) }
+    {
+        !self.buffers.is_full() || self.buffers.victim().is_some()
+    }
+
+    /// The next step by which the victim gives up its buffer for a wanted page.
+    fn eviction(&self, victim: u32, wanted: u32) -> Ask
+        ensures { IsEviction self.now victim wanted result }
+    {
+        if self.is_unsettled(victim) {
+            Ask::Write {
+                page: self.graph.next_to_write(victim),
+                cause: Cause::Evict { wanted },
+            }
+        } else {
+            Ask::Lower {
+                resource: page_resource(victim),
+                level: Level::Free,
+            }
+        }
+    }
+
+    /// Whether the page is dirty, or some page is to be written before it.
+    pub fn is_unsettled(&self, page: u32) -> bool
+        ensures { IsTrue result ↔ IsUnsettled self.now page }
+    {
+        self.is_dirty(page) || self.graph.blocked(page)
+    }
+
+    /// The least page before which none is to be written, among the page and those that are to be written before it.
+    pub fn next_to_write(&self, page: u32) -> u32
+        ensures { IsNextToWrite self.now.pairs page result }
+    {
+        self.graph.next_to_write(page)
+    }
+}
+
+/// The page as what is locked.
+pub(crate) fn page_resource(page: u32) -> Resource
+    ensures { result ≡ spec.page_resource page }
+{
+    Resource {
+        series: Series::Page,
+        key: page,
+    }
+}
+
+/// The lock of a page.
+fn lock_for(need: &Need) -> Ask
+    ensures { result ≡ lock_for need.now }
+{
+    Ask::Lock {
+        resource: page_resource(need.page),
+        level: need.level,
+        wait: need.wait,
+        word: 0,
+    }
+}
+
+/// What a page comes to that has a buffer.
+fn want_held(need: &Need, buffer: &Buffer) -> Want
+    ensures { result ≡ want_held need.now buffer.now }
+{
+    if buffer.wanted.is_some() {
+        return Want::Must(Ask::Look);
+    }
+    if !suffices(buffer.level, need.level) {
+        return Want::Must(Ask::Lower {
+            resource: page_resource(need.page),
+            level: Level::Free,
+        });
+    }
+    if buffer.copy.is_some() || need.fresh {
+        return Want::Here;
+    }
+    Want::Must(Ask::Read { page: need.page })
+}
+
+/// Whether a page that is held in the first level may be used in the second.
+pub(crate) fn suffices(held: Level, wanted: Level) -> bool
+    ensures { result ≡ suffices held wanted }
+{
+    match held {
+        Level::Ex => true,
+        Level::Pr => matches!(wanted, Level::Pr),
+        _ => false,
+    }
+}
