@@ -1,9 +1,10 @@
 //! The program `fbc_benchmarks`: `pages COUNT` times the codecs of pages beside a plain copy, and
 //! `script BYTES` the reading of scripts. What it counts goes to the standard output and the seconds,
 //! which vary, to the standard error. `file SIZE PAGES PATH` makes a sound file for the check of files
-//! to be timed over, and `steps COUNT` times the steps of a region.
+//! to be timed over, `steps COUNT` times the steps of a region, and `caches BUFFERS COUNT` the wants of a cache.
 #![tactic(auto)]
 
+mod caches;
 mod files;
 mod pages;
 mod plans;
@@ -13,6 +14,7 @@ mod steps;
 
 ghost use Rattle.std.specs.Prelude.{◌*◌, ◌<◌};
 
+use crate::caches::{full_cache, need_of, want_often};
 use crate::files::write_file;
 use crate::pages::{copy_pages, recode_pages, sample_pages};
 use crate::plans::Plan;
@@ -20,13 +22,14 @@ use crate::scripts::{PAIR, script_of};
 use crate::spent::Start;
 use crate::steps::{busy_region, take_steps};
 use anyhow::{Result, bail};
+use fbc_cache::Cache;
 use fbc_script::{Line, parse};
 use fbc_world::Event;
 use std::fs::File;
 use std::{env, mem};
 
 const USAGE: &str =
-    "usage: fbc_benchmarks pages COUNT | script BYTES | file SIZE PAGES PATH | steps COUNT ..";
+    "usage: fbc_benchmarks pages COUNT | script BYTES | file SIZE PAGES PATH | steps COUNT | caches BUFFERS COUNT ..";
 
 /// The greatest script that is asked for, in bytes.
 const GREATEST: usize = 1_000_000_000;
@@ -66,6 +69,11 @@ fn carry_out<'a>(rt: &HostRuntime, words: &'a [String]) -> Result<&'a [String]> 
         }
         [word, count, rest @ ..] if word.as_str() == "steps" => {
             time_steps(rt, count.as_str().parse::<u32>()?)?;
+            Ok(rest)
+        }
+        [word, buffers, count, rest @ ..] if word.as_str() == "caches" => {
+            let buffers = buffers.as_str().parse::<u32>()?;
+            time_caches(rt, buffers, count.as_str().parse::<u32>()?)?;
             Ok(rest)
         }
         _ => bail!("{USAGE}"),
@@ -141,5 +149,26 @@ fn time_steps(rt: &HostRuntime, count: u32) -> Result<()> {
         "an event takes {} bytes in memory",
         mem::size_of::<Event>()
     )?;
+    Ok(())
+}
+
+/// Wants a page that is held, and then one that is not, so many times each, in a cache of which all buffers but one are pinned.
+fn time_caches(rt: &HostRuntime, buffers: u32, count: u32) -> Result<()> {
+    let mut cache = full_cache(rt.alloc(), buffers)?;
+    time_wants(rt, &mut cache, buffers, count)?;
+    time_wants(rt, &mut cache, buffers.saturating_add(1), count)
+}
+
+/// Wants a page so many times.
+fn time_wants(rt: &HostRuntime, cache: &mut Cache, page: u32, count: u32) -> Result<()> {
+    let need = need_of(page);
+    if !cache.may_want(&need) {
+        bail!("page {page} may not be wanted");
+    }
+    let start = Start::now(rt)?;
+    let here = want_often(cache, need, count)?;
+    let spent = start.spent(rt)?;
+    println!(rt; "{count} wants of page {page}, {here} times here")?;
+    eprintln!(rt; "{count} wants of page {page} in {spent}")?;
     Ok(())
 }

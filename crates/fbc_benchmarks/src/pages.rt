@@ -49,7 +49,7 @@ fn fill_pages(pages: &mut [u8])
 }
 
 /// Writes a header with eight relations and sixteen transaction inventory pages over the first zeros.
-fn fill_header(out: &mut [u8])
+pub fn fill_header(out: &mut [u8])
     requires { 400 ≤ length out.old }
 {
     write_head(1, 0, 0, 0, out);

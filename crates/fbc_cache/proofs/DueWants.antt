@@ -1,20 +1,21 @@
 -- The step that a want gives is due.
-use Rattle.std.proofs.Common.{◌≡◌, ◌↔◌, inl, inr, ℕ, Bool, true, false, not, ◌==◌, ◌||◌, if◌then◌else◌, length, Option, Some, None, is_some, sym, subst, refl, arith}
+use Rattle.std.proofs.Common.{◌≡◌, ◌↔◌, ℕ, Bool, true, false, not, ◌==◌, ◌||◌, if◌then◌else◌, length, Option, Some, None, is_some, subst, refl, arith}
 use Rattle.std.specs.Option.{option_map_or}
 use Rattle.fbc_levels.specs.declared.levels.Level.TheVariants.{Ex, Free}
-use Rattle.fbc_precedence.specs.Precedence.{IsBlocked, IsNextToWrite, IsAtOrBefore}
 use Rattle.fbc_world.specs.declared.asks.Ask.{Ask}
 use Rattle.fbc_world.specs.declared.asks.Ask.TheVariants as ask
+use Rattle.fbc_world.specs.declared.asks.Cause.TheVariants.{Evict}
 use Rattle.fbc_world.specs.Holdings.{page_resource}
 use Rattle.fbc_buffers.specs.declared.buffers.Buffer.{Buffer}
 use Rattle.fbc_buffers.specs.Holding.{AreApart, buffer_of, is_waiting, victim_of}
 use Rattle.fbc_cache.specs.declared.needs.Need.{Need}
 use Rattle.fbc_cache.specs.declared.needs.Want.{Want}
 use Rattle.fbc_cache.specs.declared.needs.Want.TheVariants.{Here, Must}
-use Rattle.fbc_cache.specs.Cache.{CacheState, IsBuffer, IsCache, is_dirty_in}
-use Rattle.fbc_cache.specs.Wants.{IsDueWant, IsEviction, IsHere, IsUnsettled, MayWant, Wants, WantsBuffer, WantsBy, is_due, is_idle, is_low, is_lowering_due, is_pinned_below, is_unread, lock_for, suffices, want_held}
+use Rattle.fbc_cache.specs.Cache.{CacheState, IsBuffer, IsCache}
+use Rattle.fbc_cache.specs.Wants.{IsDueWant, IsHere, MayGiveUp, MayWant, Wants, WantsBuffer, WantsBy, is_due, is_idle, is_low, is_lowering_due, is_pinned_below, is_unread, lock_for, suffices, want_held}
+use Rattle.fbc_cache.proofs.GivesUp.{due-giving}
 use Rattle.fbc_cache.proofs.Headers.{is_buffer-found}
-use Rattle.fbc_cache.proofs.Low.{low-blocked, low-held, path-dirty}
+use Rattle.fbc_cache.proofs.Low.{low-held}
 use Rattle.fbc_cache.proofs.Victims.{any-none, is_victim, none-waits}
 
 -- a page that is held, clean and not in use is given up
@@ -56,45 +57,17 @@ module _ (c : CacheState) (need : Need) (is : IsCache c) (may : MayWant c need) 
         (λ granted does invalid. unread granted invalid)
 
   module _ (apart : AreApart c.held) (absent : buffer_of c.held need.page ≡ None) where
-    -- the next write for a page that is to be written: it is dirty, and no page stands before it
-    next-dirty : (victim next : ℕ) → IsUnsettled c victim → IsNextToWrite c.pairs victim next → is_dirty_in c.held next ≡ true
-    next-dirty victim next unsettled first = go first.among unsettled where
-      go : IsAtOrBefore c.pairs next victim → IsUnsettled c victim → is_dirty_in c.held next ≡ true
-      go (inr before) _ = path-dirty c.held c.pairs next victim is.pairs before
-      go (inl same) (inl dirty) = subst (λ page. is_dirty_in c.held page ≡ true) (sym same) dirty
-      go (inl same) (inr blocked) = absurd (first.free (subst (IsBlocked c.pairs) (sym same) blocked))
-
-    next-free : (victim next : ℕ) → IsNextToWrite c.pairs victim next → is_low c.pairs next ≡ false
-    next-free victim next first = go (is_low c.pairs next) refl where
-      go : (t : Bool) → is_low c.pairs next ≡ t → t ≡ false
-      go true low = absurd (first.free (low-blocked c.pairs next low))
-      go false low = refl
-
-    settled-free : (victim : ℕ) → (IsUnsettled c victim → ⊥) → is_low c.pairs victim ≡ false
-    settled-free victim settled = go (is_low c.pairs victim) refl where
-      go : (t : Bool) → is_low c.pairs victim ≡ t → t ≡ false
-      go true low = absurd (settled (inr (low-blocked c.pairs victim low)))
-      go false low = refl
-
-    settled-clean : (victim : ℕ) → (IsUnsettled c victim → ⊥) → is_dirty_in c.held victim ≡ false
-    settled-clean victim settled = go (is_dirty_in c.held victim) refl where
-      go : (t : Bool) → is_dirty_in c.held victim ≡ t → t ≡ false
-      go true dirty = absurd (settled (inl dirty))
-      go false dirty = refl
-
-    due-eviction : (victim : ℕ) (asked : Ask) → victim_of c.held ≡ Some victim → IsEviction c victim need.page asked → is_due c asked ≡ true
-    due-eviction victim asked chosen' (inl unsettled) =
-        rw (unsettled.1.is_write, next-dirty victim unsettled.1.next unsettled.0 unsettled.1.is_next, next-free victim unsettled.1.next unsettled.1.is_next) refl
-    due-eviction victim asked chosen' (inr settled) =
+    -- a page that gives its buffer up is held and not in use
+    may-give_up : (victim : ℕ) → victim_of c.held ≡ Some victim → MayGiveUp c victim Free
+    may-give_up victim chosen' =
         let v = is_victim c.held victim apart (none-waits c need apart may absent) chosen' in
-        let clean : v.buffer.is_dirty ≡ false = rw v.found at (settled-clean victim settled.0) in
-        rw (settled.1) (idle-lowers c victim v.buffer v.found (grind (arith, v.granted, clean, v.loose)) (settled-free victim settled.0))
+        record { granted = rw v.found (grind (arith, v.granted)); loose = rw v.found v.loose; usable = refl; part = refl }
 
     due-lock : (length c.held == c.room) ≡ false → is_due c (lock_for need) ≡ true
     due-lock space = rw (absent, space, may.level, any-none is_waiting c.held (none-waits c need apart may absent)) refl
 
     due-buffer : (full : Bool) (want : Want) → (length c.held == c.room) ≡ full → WantsBuffer c need full want → IsDueWant c want
-    due-buffer true want full evicts = rw evicts.is_asked (due-eviction evicts.victim evicts.asked evicts.is_victim evicts.is_due)
+    due-buffer true want full evicts = rw evicts.is_asked (due-giving c is evicts.victim (Evict need.page) Free evicts.asked (may-give_up evicts.victim evicts.is_victim) evicts.is_due)
     due-buffer false want space is_lock = rw is_lock (due-lock space)
 
   -- what a need comes to is due

@@ -11,5 +11,8 @@ pub mod Few
 pub mod Headers
 pub mod Low
 pub mod Victims
+pub mod GivesUp
 pub mod DueWants
 pub mod Conditions
+pub mod PinnedBuffers
+pub mod PinnedPages

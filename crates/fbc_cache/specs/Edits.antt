@@ -23,12 +23,6 @@ page_after c page edit = edited c.shape edit (copy_in c.held page)
 abbrev pub needs_pair : List Buffer → ℕ → ℕ → Bool
 needs_pair held page high = is_dirty_in held high && not (high == page)
 
--- How two pages stand to each other.
-abbrev pub Stand : List Edge → ℕ → ℕ → Related → Type 0
-Stand pairs high low related.Recorded = AreUnrelated pairs high low
-Stand pairs high low related.Already = StandsBefore pairs high low
-Stand pairs high low (related.WriteFirst first) = StandsBefore pairs low high × (first ≡ low)
-
 -- The answer that another page is to be written first.
 abbrev pub is_write_first : Related → Bool
 is_write_first (related.WriteFirst page) = true

@@ -1,5 +1,6 @@
 pub mod Cache
 pub mod Edits
+pub mod Giving
 pub mod Readers
 pub mod Remembered
 pub mod Takes

@@ -1,5 +1,5 @@
 -- What a need comes to.
-use Rattle.std.specs.Prelude.{◌≡◌, ◌<◌, ◌⊎◌, ◌==◌, ◌&&◌, ◌||◌, ℕ, Bool, true, false, not, if◌then◌else◌, List, Option, Some, None, length, is_some, is_none}
+use Rattle.std.specs.Prelude.{◌≡◌, ◌<◌, ◌==◌, ◌&&◌, ◌||◌, ℕ, Bool, true, false, not, if◌then◌else◌, List, Option, Some, None, length, is_some, is_none}
 use Rattle.std.specs.List.{filter, find, list_any}
 use Rattle.std.specs.Option.{option_map_or}
 use Rattle.fbc_levels.specs.declared.levels.Level.{Level}
@@ -9,17 +9,17 @@ use Rattle.fbc_levels.specs.declared.resources.Resource.{Resource}
 use Rattle.fbc_levels.specs.declared.resources.Series.TheVariants as series
 use Rattle.fbc_levels.specs.Resources.{is_same_series}
 use Rattle.fbc_kinds.specs.declared.edges.Edge.{Edge}
-use Rattle.fbc_precedence.specs.Precedence.{IsBlocked, IsNextToWrite}
 use Rattle.fbc_world.specs.declared.asks.Ask.{Ask}
 use Rattle.fbc_world.specs.declared.asks.Ask.TheVariants as ask
 use Rattle.fbc_world.specs.declared.asks.Cause.TheVariants.{Evict}
 use Rattle.fbc_world.specs.Holdings.{page_resource}
 use Rattle.fbc_buffers.specs.declared.buffers.Buffer.{Buffer}
-use Rattle.fbc_buffers.specs.Holding.{buffer_of, is_waiting, victim_of}
+use Rattle.fbc_buffers.specs.Holding.{buffer_of, is_pinned, is_waiting, victim_of}
 use Rattle.fbc_cache.specs.declared.needs.Need.{Need}
 use Rattle.fbc_cache.specs.declared.needs.Want.{Want}
 use Rattle.fbc_cache.specs.declared.needs.Want.TheVariants.{Here, Must}
-use Rattle.fbc_cache.specs.Cache.{CacheState, is_dirty_in, is_page_level, level_in}
+use Rattle.fbc_cache.specs.Cache.{CacheState, is_dirty_in, is_granted_in, is_page_level, is_pinned_in, level_in}
+use Rattle.fbc_cache.specs.Giving.{GivesUp}
 
 -- Whether a page that is held in the first level may be used in the second.
 abbrev pub suffices : Level → Level → Bool
@@ -37,7 +37,7 @@ pub record MayWant (c : CacheState) (need : Need) : Type 0 where
   pub level : is_page_level need.level ≡ true
   pub unpinned : option_map_or (is_pinned_below need.level) (buffer_of c.held need.page) false ≡ false
   pub alone : option_map_or (λ (b : Buffer). b.page == need.page) (find is_waiting c.held) true ≡ true
-  pub loose : length (filter (λ (b : Buffer). b.is_pinned) c.held) < c.room
+  pub loose : length (filter is_pinned c.held) < c.room
 
 -- A page that has a buffer: it is waited for; it is held in a level that does not do, and is given up; it may be used; or it is read.
 abbrev pub want_held : Need → Buffer → Want
@@ -51,28 +51,12 @@ want_held need b =
 abbrev pub lock_for : Need → Ask
 lock_for need = ask.Lock (page_resource need.page) need.level need.wait 0
 
--- The next write in order, before a page is given up for another.
-pub record IsWriteFor (pairs : List Edge) (victim wanted : ℕ) (asked : Ask) : Type 0 where
-  pub next : ℕ
-  pub is_next : IsNextToWrite pairs victim next
-  pub is_write : asked ≡ ask.Write next (Evict wanted)
-
--- A page is to be written, or some page before it.
-abbrev pub IsUnsettled : CacheState → ℕ → Type 0
-IsUnsettled c page = (is_dirty_in c.held page ≡ true) ⊎ IsBlocked c.pairs page
-
--- The victim is written, after those before it, and then given up.
-abbrev pub IsEviction : CacheState → ℕ → ℕ → Ask → Type 0
-IsEviction c victim wanted asked =
-    (IsUnsettled c victim × IsWriteFor c.pairs victim wanted asked)
-    ⊎ ((¬ IsUnsettled c victim) × (asked ≡ ask.Lower (page_resource victim) Free))
-
 -- Where all buffers are in use, one is made free; else the lock is asked.
 pub record Evicts (c : CacheState) (need : Need) (want : Want) : Type 0 where
   pub victim : ℕ
   pub asked : Ask
   pub is_victim : victim_of c.held ≡ Some victim
-  pub is_due : IsEviction c victim need.page asked
+  pub is_due : GivesUp c victim (Evict need.page) Free asked
   pub is_asked : want ≡ Must asked
 
 abbrev pub WantsBuffer : CacheState → Need → Bool → Want → Type 0
@@ -104,10 +88,11 @@ abbrev pub is_lock_due : CacheState → ℕ → Level → Bool
 is_lock_due c page level =
     is_none (buffer_of c.held page) && not (length c.held == c.room) && is_page_level level && not (list_any is_waiting c.held)
 
--- A page may be lowered to a part of its level where it is held, is clean and not in use, and no page is to be written before it.
+-- Whether a page is held, clean and not pinned.
 abbrev pub is_idle : Buffer → Bool
 is_idle b = is_none b.wanted && not b.is_dirty && not b.is_pinned
 
+-- Whether some page is to be written before it.
 abbrev pub is_low : List Edge → ℕ → Bool
 is_low pairs page = list_any (λ (pair : Edge). pair.low == page) pairs
 
@@ -115,9 +100,17 @@ is_low pairs page = list_any (λ (pair : Edge). pair.low == page) pairs
 abbrev pub is_part : Level → Level → Bool
 is_part level held = is_free level || suffices held level
 
+-- A page may be lowered to a part of its level where it is held, clean and not pinned, and no page is to be written before it.
 abbrev pub is_lowering_due : CacheState → ℕ → Level → Bool
 is_lowering_due c page level =
     option_map_or is_idle (buffer_of c.held page) false && not (is_low c.pairs page) && (is_free level || is_page_level level) && is_part level (level_in c.held page)
+
+-- A page may be given up, or held in this level: its grant was learnt, it is not in use, and the level is a part of its own.
+pub record MayGiveUp (c : CacheState) (page : ℕ) (level : Level) : Type 0 where
+  pub granted : is_granted_in c.held page ≡ true
+  pub loose : is_pinned_in c.held page ≡ false
+  pub usable : (is_free level || is_page_level level) ≡ true
+  pub part : is_part level (level_in c.held page) ≡ true
 
 -- A page is read where it is held and has no copy.
 abbrev pub is_unread : Buffer → Bool

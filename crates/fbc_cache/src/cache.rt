@@ -4,7 +4,7 @@ ghost use Rattle.std.specs.Prelude.{◌≡◌, ◌↔◌, [], IsTrue, IfOk};
 ghost use Rattle.std.specs.Option.{option_copied};
 ghost use Rattle.fbc_buffers.specs.Holding.{IsHolding, victim_of};
 ghost use Rattle.fbc_kinds.specs.HeaderSpelling.{IsShape};
-ghost use Rattle.fbc_cache.specs.Cache.{CacheState, copy_in, is_pinned_in};
+ghost use Rattle.fbc_cache.specs.Cache.{CacheState, IsCache, copy_in, is_pinned_in};
 ghost use Rattle.fbc_cache.specs.Use.{after_mark, after_pin, after_unpin};
 
 use crate::remembered::Remembered;
@@ -81,16 +81,18 @@ impl Cache {
         self.buffers.set_pinned(page, false);
     }
 
-    /// Somebody asks for a page that is in use: it is to be given up after that.
+    /// Somebody asks for the page: its buffer is marked. No call tells the mark yet.
     pub fn mark_blocking(&mut self, callback: Callback)
         ensures { self.new ≡ after_mark self.old callback.page }
     {
         self.buffers.set_blocking(callback.page, true);
     }
 
-    /// There are no more buffers than there is room for, and one for each page.
-    pub(crate) fn holds(&self)
-        ensures { IsHolding (record { room = self.now.room; held = self.now.held }) }
+    /// What a cache is holds of it: there are no more buffers than there is room for, and one for each page, and its levels,
+    /// copies and pairs are as `IsCache` says. It does nothing when it is run.
+    pub fn holds(&self)
+        ensures holding { IsHolding (record { room = self.now.room; held = self.now.held }) }
+        ensures cache { IsCache self.now }
     {
         let _held = self.buffers.held();
     }

@@ -23,7 +23,7 @@ impl Cache {
     }
 
     /// Whether the page was edited and not written since.
-    pub(crate) fn is_dirty(&self, page: u32) -> bool
+    pub fn is_dirty(&self, page: u32) -> bool
         ensures { result ≡ is_dirty_in self.now.held page }
     {
         match self.buffers.buffer(page) {

@@ -57,7 +57,7 @@ impl Cache {
         }
     }
 
-    /// The page as it may be used; a blank one, of which the same becomes by each edit, where nothing may be used of it.
+    /// The page as it may be used; a blank one, which each edit turns into the same page, where nothing may be used of it.
     pub(crate) fn content(&self, page: u32) -> Result<Page, AllocError>
         ensures content { IfOk result (λ content. (edit : AnEdit) → page_after self.now page edit ≡ applied self.now.shape edit content) }
         ensures limits { IfOk result (IsWithinLimits self.now.shape) }

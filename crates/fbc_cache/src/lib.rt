@@ -8,12 +8,12 @@ mod due;
 mod edit_conditions;
 mod edits;
 mod faults;
+mod giving;
 mod needs;
 mod readers;
 mod remembered;
+mod staying;
 mod takes;
-#[cfg(test)]
-mod tests;
 mod wants;
 
 pub use cache::Cache;
@@ -21,3 +21,4 @@ pub use edits::Edited;
 pub use faults::CacheFault;
 pub use needs::{Need, Want};
 pub use readers::Place;
+pub use staying::pinned_pages_stay;

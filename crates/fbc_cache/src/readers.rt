@@ -17,7 +17,7 @@ use fbc_kinds::{Cell, Flag, Header, Page, State, Value};
 #[derive(Clone, Copy, Debug, PartialEq, Eq)]
 pub struct Place {
     /// As the first byte of a page numbers the kinds: 1 header, 2 page inventory, 3 transaction inventory, 4 pointer, 5
-    /// data; 0 for a blank page.
+    /// data; 0 for a blank page, and for one that may not be used.
     pub kind: u8,
     /// The relation of a pointer page or a data page, else 0.
     pub relation: u8,

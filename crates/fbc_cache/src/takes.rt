@@ -23,8 +23,8 @@ impl Cache {
     ///
     /// # Errors
     ///
-    /// `Damaged` exactly where bytes were read that spell no page, with the first rule that they break. The page then has
-    /// no copy, and likewise where there was no memory for one.
+    /// `Damaged` exactly where bytes were read that spell no page, with the first rule that they break; want of memory. The
+    /// cache is then as it was, so a page that was to be read has no copy.
     pub fn take(&mut self, ask: &Ask, answer: &Answer, image: &[u8]) -> Result<(), CacheFault>
         requires image { length image.now ≡ self.old.shape.size }
         ensures taken { OnOk result (Takes self.old self.new ask.now answer.now image.now) }

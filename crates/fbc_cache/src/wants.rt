@@ -7,8 +7,7 @@ ghost use Rattle.fbc_buffers.specs.declared.buffers.Buffer.{Buffer as ABuffer};
 ghost use Rattle.fbc_buffers.specs.Holding.{buffer_of, is_pinned, is_waiting};
 ghost use Rattle.fbc_world.specs.Holdings as spec;
 ghost use Rattle.fbc_cache.specs.declared.needs.Want.TheVariants as wants;
-ghost use Rattle.fbc_precedence.specs.Precedence.{IsNextToWrite};
-ghost use Rattle.fbc_cache.specs.Wants.{IsDueWant, IsEviction, IsHere, IsUnsettled, MayWant, Wants, WantsBuffer, is_pinned_below, lock_for, suffices, want_held};
+ghost use Rattle.fbc_cache.specs.Wants.{IsDueWant, IsHere, MayWant, Wants, WantsBuffer, is_pinned_below, lock_for, suffices, want_held};
 
 use crate::cache::Cache;
 use crate::due::is_page_level;
@@ -21,6 +20,10 @@ use std::alloc::AllocError;
 impl Cache {
     /// Whether the page may be used, or the step that is due first: the page's own lowering, the next write for its
     /// buffer or the lowering of the page that gives its buffer up, the lock, the look, the read.
+    ///
+    /// # Errors
+    ///
+    /// None so far: it takes no memory.
     pub fn want(&mut self, need: Need) -> Result<Want, AllocError>
         requires { MayWant self.old need }
         ensures same { self.new ≡ self.old }
@@ -28,7 +31,7 @@ impl Cache {
         ensures here { IfOk result (λ want. (want ≡ wants.Here) ↔ IsHere self.old need) }
         ensures due { IfOk result (IsDueWant self.old) }
     {
-        // No page has two buffers, so the one that gives way is not waited for.
+        // No page has two buffers, and no other page is waited for: so the one that gives way is held.
         let _held = self.buffers.held();
         Ok(self.step_for(&need))
     }
@@ -53,7 +56,11 @@ impl Cache {
             return Want::Must(lock_for(need));
         }
         match self.buffers.victim() {
-            Some(victim) => Want::Must(self.eviction(victim, need.page)),
+            Some(victim) => Want::Must(self.step_to_give_up(
+                victim,
+                Cause::Evict { wanted: need.page },
+                Level::Free,
+            )),
             None => Want::Must(lock_for(need)),
         }
     }
@@ -104,37 +111,6 @@ impl Cache {
         ensures { IsTrue result ↔ (length (filter is_pinned self.now.held) < self.now.room) }
     {
         !self.buffers.is_full() || self.buffers.victim().is_some()
-    }
-
-    /// The next step by which the victim gives up its buffer for a wanted page.
-    fn eviction(&self, victim: u32, wanted: u32) -> Ask
-        ensures { IsEviction self.now victim wanted result }
-    {
-        if self.is_unsettled(victim) {
-            Ask::Write {
-                page: self.graph.next_to_write(victim),
-                cause: Cause::Evict { wanted },
-            }
-        } else {
-            Ask::Lower {
-                resource: page_resource(victim),
-                level: Level::Free,
-            }
-        }
-    }
-
-    /// Whether the page is dirty, or some page is to be written before it.
-    pub fn is_unsettled(&self, page: u32) -> bool
-        ensures { IsTrue result ↔ IsUnsettled self.now page }
-    {
-        self.is_dirty(page) || self.graph.blocked(page)
-    }
-
-    /// The least page before which none is to be written, among the page and those that are to be written before it.
-    pub fn next_to_write(&self, page: u32) -> u32
-        ensures { IsNextToWrite self.now.pairs page result }
-    {
-        self.graph.next_to_write(page)
     }
 }
 

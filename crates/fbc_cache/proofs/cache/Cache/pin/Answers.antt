@@ -7,4 +7,4 @@ use Rattle.fbc_cache.proofs.cache.Cache.pin.Goals as goal
 pub invariant_of-self : goal.invariant_of-self
 invariant_of-self c =
     let granted : is_granted_in c.args.self.now.held c.args.page ≡ true = sym c.is_granted.ensures ∙ c.if-is_granted.true in
-    rw c.touch.ensures (rw c.set_pinned.ensures (c.self.invariant.0, c.self.invariant.1, cache-pinned _ c.args.page (rw (← c.self.view_is) at granted) (rw (← c.self.view_is) at c.holds.ensures).once c.self.invariant.2))
+    rw c.touch.ensures (rw c.set_pinned.ensures (c.self.invariant.0, c.self.invariant.1, cache-pinned _ c.args.page (rw (← c.self.view_is) at granted) (rw (← c.self.view_is) at c.holds.ensures.holding).once c.self.invariant.2))

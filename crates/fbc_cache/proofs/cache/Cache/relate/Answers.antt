@@ -12,7 +12,7 @@ relate-requires-clause-room c =
     let all : ArePairs c.args.self.now.held c.args.self.now.pairs = subst (λ (s : CacheState). ArePairs s.held s.pairs) c.self.view_is c.self.invariant.2.pairs in
     let more = pairs-push c.args.self.now.held c.args.self.now.pairs (pair_of c.args.high c.args.page) all (new-pair c.args.self.now.held c.args.page c.args.high c.requires.exclusive c.requires.needed) in
     let few = few-pages c.args.self.now.held (c.args.self.now.pairs ++ pair_of c.args.high c.args.page ∷ []) c.pages_are_few.ensures more in
-    let fits : length (pages_of (c.args.self.now.pairs ++ pair_of c.args.high c.args.page ∷ [])) ≤ c.args.self.now.room = omega (arith, few, c.holds.ensures.few) in
+    let fits : length (pages_of (c.args.self.now.pairs ++ pair_of c.args.high c.args.page ∷ [])) ≤ c.args.self.now.room = omega (arith, few, c.holds.ensures.holding.few) in
     rw c.self.invariant.1 (subst (λ (s : CacheState). length (pages_of (s.pairs ++ pair_of c.args.high c.args.page ∷ [])) ≤ s.room) (sym c.self.view_is) fits)
 
 pub invariant_of-self : goal.invariant_of-self

@@ -11,4 +11,4 @@ invariant_of-self c =
 pub invariant_of-self-in_default : goal.invariant_of-self-in_default
 invariant_of-self-in_default c =
     let held : is_free c.args.level ≡ false = grind (arith, c.in_default.not-Free) in
-    rw (c.set_blocking.ensures) (rw c.set_level.ensures (c.self.invariant.0, c.self.invariant.1, cache-lowered _ c.args.page c.args.level held (rw (← c.self.view_is) at c.requires.due) (rw (← c.self.view_is) at c.holds.ensures).once c.self.invariant.2))
+    rw (c.set_blocking.ensures) (rw c.set_level.ensures (c.self.invariant.0, c.self.invariant.1, cache-lowered _ c.args.page c.args.level held (rw (← c.self.view_is) at c.requires.due) (rw (← c.self.view_is) at c.holds.ensures.holding).once c.self.invariant.2))
