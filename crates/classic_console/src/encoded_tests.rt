@@ -1,13 +1,14 @@
 //! A file that is built page by page with the encoders.
 ghost use Rattle.std.specs.Prelude.{◌≡◌, ◌≤◌, length, IfOk};
-ghost use Rattle.fbc_kinds.specs.HeaderSpelling.{IsShape};
+ghost use Rattle.fbc_kinds.specs.HeaderSpelling.{IsFileShape};
 ghost use Rattle.fbc_kinds.specs.Edits.{IsWithinLimits};
 ghost use Rattle.fbc_kinds.specs.declared.shapes.Shape.{Shape};
 
 use crate::tests::{MOVED, Spot, bytes_of};
+use fbc_apply::apply;
+use fbc_apply::fitting::value_length;
 use fbc_cells::{encode_data, encode_pointer};
-use fbc_kinds::fitting::value_length;
-use fbc_kinds::{ApplyFault, Cell, Edit, Flag, Page, PageFault, Rule, Shape, State, Value, apply};
+use fbc_kinds::{ApplyFault, Cell, Edit, Flag, Page, PageFault, Rule, Shape, State, Value};
 use fbc_pages::{
     decode_header, decode_inventory, encode_header, encode_inventory, encode_tip, recognise,
 };
@@ -60,7 +61,7 @@ fn first_bytes(file: &[u8], count: usize) -> &[u8]
 /// The shape that a file of four pages shows.
 fn shape_of(file: &[u8]) -> Result<Shape, Rule>
     requires { length file.now ≡ 4096 }
-    ensures { IfOk result IsShape }
+    ensures { IfOk result IsFileShape }
 {
     recognise(first_bytes(file, 1024), 4096, 262_144)
 }
@@ -83,7 +84,7 @@ fn inventory(alloc: Global, file: &[u8]) -> Result<Page, PageFault>
 
 /// The page after these edits, one after the other.
 fn edited(alloc: Global, shape: &Shape, mut page: Page, edits: &[Edit]) -> Result<Page, ApplyFault>
-    requires shape { IsShape shape.now }
+    requires shape { IsFileShape shape.now }
     requires page { IsWithinLimits shape.now page }
     ensures { IfOk result (IsWithinLimits shape.now) }
 {
@@ -95,7 +96,7 @@ fn edited(alloc: Global, shape: &Shape, mut page: Page, edits: &[Edit]) -> Resul
 
 /// Writes the bytes of a page.
 fn encode(rt: &impl Abort, shape: &Shape, page: &Page, out: &mut [u8])
-    requires shape { IsShape shape.now }
+    requires shape { IsFileShape shape.now }
     requires page { IsWithinLimits shape.now page.now }
     requires length { length out.old ≡ shape.now.size }
 {
@@ -122,7 +123,7 @@ fn add_page(
     edits: &[Edit],
     file: &mut Vec<u8>,
 ) -> Result<(), ApplyFault>
-    requires shape { IsShape shape.now }
+    requires shape { IsFileShape shape.now }
     requires size { shape.now.size ≡ 1024 }
     requires page { IsWithinLimits shape.now page }
 {

@@ -1,18 +1,21 @@
 //! The program `classic_console FILE COMMAND ..`: it opens the file, carries out the command by the
-//! top call, with the standard input as the script's source, and ends with the status's number.
+//! top call, with the standard input as the script's source, and ends with the status's number. What
+//! it says beside the lines of the top call goes to standard error.
 #![tactic(auto)]
 
+mod access;
 #[cfg(test)]
 mod encoded_tests;
+mod help;
 #[cfg(test)]
 mod tests;
 
-ghost use Rattle.std.specs.Prelude.{◌≡◌, ◌↔◌, ◌⊎◌, IsTrue, IfErr};
-ghost use Rattle.classic_console.specs.Opening.{MakesFile, ReadsFile};
+ghost use Rattle.std.specs.Prelude.{◌≡◌, ◌⊎◌, IfErr};
 
+use access::{Access, access_of, fill_standard_descriptors, open};
 use fbc_console::{Ended, Status, console, end};
 use fbc_outside::{FileDevice, Sink, StdSink, StdSource};
-use std::fs::{File, OpenOptions};
+use help::HELP;
 use std::process::ExitCode;
 use std::{env, io};
 
@@ -20,7 +23,7 @@ fn main(rt: HostRuntime) -> ExitCode {
     let mut out = StdSink::new(io::writer(&rt));
     let status = match words_of(&rt) {
         Ok(words) => run(&rt, words.as_slice(), &mut out),
-        Err(status) => end(rt.alloc(), Err(status), &mut out),
+        Err(status) => refuse(&rt, status, &mut out),
     };
     ExitCode::from(status.number())
 }
@@ -48,53 +51,48 @@ fn status_of(error: &io::Error) -> Status
     }
 }
 
-/// Opens the file that the first word names, and carries out the others over it.
+/// Opens the file that the first word names, and carries out the others over it. Where these are no
+/// command the file is neither opened nor made.
 fn run<K: Sink>(rt: &HostRuntime, words: &[String], out: &mut K) -> Status {
     let [name, words @ ..] = words else {
-        return end(rt.alloc(), Err(Status::Usage), out);
+        return refuse(rt, Status::Usage, out);
     };
-    match open(rt, name.as_str(), words) {
-        Ok(file) => {
-            let mut script = StdSource::new(rt.reader());
-            let Ended { status, device: _ } = console(
-                rt.alloc(),
-                words,
-                FileDevice::new(file),
-                &mut script,
-                out,
-            );
+    let access = match access_of(rt.alloc(), words) {
+        Ok(access) => access,
+        Err(status) => return refuse(rt, status, out),
+    };
+    match carry_out(rt, name.as_str(), access, words, out) {
+        Ok(status) => status,
+        Err(error) => {
+            let status = refuse(rt, Status::DeviceFault, out);
+            let _ = eprintln!(rt; "{name}: {error}");
             status
         }
-        Err(_) => end(rt.alloc(), Err(Status::DeviceFault), out),
     }
 }
 
-/// Opens a file to be read, and to be written but for `validate`. It is made where it is missing for
-/// `create` alone.
-fn open(rt: &HostRuntime, name: &str, words: &[String]) -> io::Result<File> {
-    let mut how = OpenOptions::new();
-    how.read(true);
-    how.write(!is_validate(words));
-    how.create(is_create(words));
-    how.open(rt, name)
+/// Opens the file and carries out the words over it.
+///
+/// Errors: what the machine says where the file can't be opened; nothing was written then.
+fn carry_out<K: Sink>(
+    rt: &HostRuntime,
+    name: &str,
+    access: Access,
+    words: &[String],
+    out: &mut K,
+) -> io::Result<Status> {
+    let _standard = fill_standard_descriptors(rt)?;
+    let device = FileDevice::new(open(rt, name, access)?);
+    let mut script = StdSource::new(rt.reader());
+    let Ended { status, device: _ } = console(rt.alloc(), words, device, &mut script, out);
+    Ok(status)
 }
 
-/// Whether the first of the words is `create`.
-fn is_create(words: &[String]) -> bool
-    ensures { IsTrue result ↔ MakesFile words.now }
-{
-    match words {
-        [word, ..] => word.as_str() == "create",
-        [] => false,
+/// Ends before a file is opened, with the help on standard error behind `usage`.
+fn refuse<K: Sink>(rt: &HostRuntime, why: Status, out: &mut K) -> Status {
+    let status = end(rt.alloc(), Err(why), out);
+    if why == Status::Usage {
+        let _ = rt.eprint(HELP);
     }
-}
-
-/// Whether the first of the words is `validate`.
-fn is_validate(words: &[String]) -> bool
-    ensures { IsTrue result ↔ ReadsFile words.now }
-{
-    match words {
-        [word, ..] => word.as_str() == "validate",
-        [] => false,
-    }
+    status
 }

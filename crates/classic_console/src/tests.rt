@@ -162,8 +162,9 @@ fn play(alloc: Global, file: Content, script: &str) -> Result<Seen, AllocError>
     call(alloc, &["play"], file, Vec::new(alloc), script, None, 1000)
 }
 
+/// Where there is memory enough, each transaction is played to its end.
 #[test]
-fn transactions_are_played(rt: HostRuntime) -> Result<(), Fail> {
+fn succeeds_with_ample_memory(rt: HostRuntime) -> Result<(), Fail> {
     let alloc = rt.alloc();
     let cases: [(&str, &str, Content); 3] = [
         (SCRIPT, LINES, (5120, &INSERTED)),

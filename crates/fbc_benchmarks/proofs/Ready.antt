@@ -10,7 +10,7 @@ use Rattle.fbc_world.specs.declared.answers.Answer.{Answer}
 use Rattle.fbc_world.specs.declared.answers.Answer.TheVariants as answers
 use Rattle.fbc_world.specs.declared.asks.Ask.TheVariants as ask
 use Rattle.fbc_world.specs.declared.events.LocalEvent.{LocalEvent}
-use Rattle.fbc_world.specs.Holdings.{page_resource}
+use Rattle.fbc_levels.specs.Resources.{page_resource}
 use Rattle.fbc_world.specs.History.{Recording, recorded}
 use Rattle.fbc_world.specs.Owners.{is_alive}
 use Rattle.fbc_region.specs.Shared.{HasReserved, locks_in}
@@ -33,7 +33,7 @@ pub ready_page : (step : ℕ) (journal : Recording) → (step ≡ 0 → ⊥) →
 ready_page zero journal isnt has = absurd (isnt refl)
 ready_page (suc step) journal isnt has = has
 
--- the second owner holds all its pages, and the first none
+-- The second owner holds all its pages, and the first none.
 pub free_beside : (page : ℕ) (journal : Recording) → HoldsBelow page journal → IsFree journal
 free_beside page journal holds = record { alive = holds.first; none = held_others page (locks_in journal).requests holds.held }
 
@@ -66,15 +66,15 @@ module _ (before after : Recording) (events : List LocalEvent) (answer : Answer)
     none = others_lowered before after events answer (subst (λ r. Performs before after 1 events answer (ask.Lower r Free)) is done) has.only;
   }
 
--- who has reserved steps has reserved fewer
+-- Who has reserved steps has reserved fewer.
 pub fewer_steps : (journal : Recording) (steps fewer : ℕ) → fewer ≤ steps → HasReserved journal steps → HasReserved journal fewer
 fewer_steps journal steps fewer few reserved = omega (arith, few, reserved)
 
--- what two facts of a success make
+-- What two facts of a success make.
 pub on_both : {T E : Type 0} (result : Result T E) (A B C : Type 0) → (A → B → C) → OnOk result A → OnOk result B → OnOk result C
 on_both (Ok x) A B C makes a b = makes a b
 on_both (Err e) A B C makes a b = tt
 
--- after an ask comes a look
+-- After an ask comes a look.
 pub look_next : (turn : ℕ) → turn % 3 ≡ 0 → (turn + 1) % 3 ≡ 0 → ⊥
 look_next turn is next = let one : (turn + 1) % 3 ≡ 1 = omega (arith, is) in absurd (let clash : 0 ≡ 1 = sym next ∙ one in cc)

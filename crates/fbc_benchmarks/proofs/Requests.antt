@@ -11,10 +11,10 @@ use Rattle.fbc_levels.specs.LockState.{LockState, is_dead_of, is_of, is_wait_of}
 use Rattle.fbc_lock_table.specs.Answers.{MayAsk}
 use Rattle.fbc_lock_table.specs.Effects.{entered, new_request, with_granted}
 use Rattle.fbc_owner_queues.specs.Grants.{is_by}
-use Rattle.fbc_world.specs.Holdings.{page_resource}
+use Rattle.fbc_levels.specs.Resources.{page_resource}
 use Rattle.fbc_benchmarks.specs.Steps.{IsHeldBelow, IsOthers, IsOthersOrPage}
 
--- what is no level takes nothing from another
+-- What is no level takes nothing from another.
 pub join_free : (level : Level) → join level Free ≡ level
 join_free Free = refl
 join_free Null = refl
@@ -24,7 +24,7 @@ join_free Sw = refl
 join_free Pw = refl
 join_free Ex = refl
 
--- facts of all requests through the changes of a list
+-- Facts of all requests through the changes of a list.
 pub all_map : (P Q : Request → Type 0) (f : Request → Request) → ((r : Request) → P r → Q (f r)) → (rs : List Request) → AllByRecursion P rs → AllByRecursion Q (map f rs)
 all_map P Q f keeps [] all = tt
 all_map P Q f keeps (r ∷ rs) all = (keeps r all.0, all_map P Q f keeps rs all.1)
@@ -40,7 +40,7 @@ all_entered P rs owner resource word all new = go (is_some (find (is_of owner re
   go true = all
   go false = all_with P rs (new_request owner resource word) all new
 
--- what was found is one of them
+-- What was found is one of them.
 pub found_is : (P : Request → Type 0) (test : Request → Bool) (rs : List Request) (r : Request) → AllByRecursion P rs → find test rs ≡ Some r → P r
 found_is P test [] r all is = absurd cc
 found_is P test (x ∷ rs) r all is = go (test x) is (found_is P test rs r all.1) where
@@ -48,7 +48,7 @@ found_is P test (x ∷ rs) r all is = go (test x) is (found_is P test rs r all.1
   go true here rest = let same : x ≡ r = cc in subst P same all.0
   go false there rest = rest there
 
--- the second owner asks for the next page
+-- The second owner asks for the next page.
 pub held_asked : (page : ℕ) (rs : List Request) → AllByRecursion (IsHeldBelow page) rs
     → AllByRecursion (IsHeldBelow (page + 1)) (map (with_granted 2 (page_resource page) Ex) (entered rs 2 (page_resource page) 0))
 held_asked page rs held =
@@ -78,12 +78,12 @@ held_may page s held = record {
   new_page = λ is. held_fresh page s.requests held;
 }
 
--- none of them is the first owner's
+-- None of them is the first owner's.
 pub held_others : (page : ℕ) (rs : List Request) → AllByRecursion (IsHeldBelow page) rs → AllByRecursion IsOthers rs
 held_others page [] held = tt
 held_others page (r ∷ rs) held = (rw held.0.0 refl, held_others page rs held.1)
 
--- an owner without requests may ask for each page
+-- An owner without requests may ask for each page.
 pub others_live : (rs : List Request) → AllByRecursion IsOthers rs → list_any (is_dead_of 1) rs ≡ false
 others_live [] others = refl
 others_live (r ∷ rs) others = grind (arith, nat_tests, others.0, others_live rs others.1)
@@ -104,7 +104,7 @@ free_may s others = record {
   new_page = λ is. others_have (page_resource 0) s.requests others;
 }
 
--- its first request is for that page
+-- Its first request is for that page.
 pub only_asked : (rs : List Request) → AllByRecursion IsOthers rs → AllByRecursion IsOthersOrPage (map (with_granted 1 (page_resource 0) Ex) (entered rs 1 (page_resource 0) 0))
 only_asked rs others =
     all_map IsOthersOrPage IsOthersOrPage (with_granted 1 (page_resource 0) Ex) (λ r it. it) (entered rs 1 (page_resource 0) 0)
@@ -113,7 +113,7 @@ only_asked rs others =
       weaker [] all = tt
       weaker (x ∷ xs) all = ((λ own. absurd (let clash : true ≡ false = sym own ∙ all.0 in cc)), weaker xs all.1)
 
--- without it it has none
+-- Without it it has none.
 pub others_without : (rs : List Request) → AllByRecursion IsOthersOrPage rs → AllByRecursion IsOthers (filter (λ r. not (is_of 1 (page_resource 0) r)) rs)
 others_without [] only = tt
 others_without (r ∷ rs) only = go (is_of 1 (page_resource 0) r) refl (is_by 1 r) refl (others_without rs only.1) where

@@ -18,7 +18,7 @@ use Rattle.fbc_world.specs.declared.asks.Ask.TheVariants as ask
 use Rattle.fbc_world.specs.declared.events.Act.TheVariants as act
 use Rattle.fbc_world.specs.declared.events.Event.{Event}
 use Rattle.fbc_world.specs.declared.events.LocalEvent.{LocalEvent}
-use Rattle.fbc_world.specs.Holdings.{page_resource}
+use Rattle.fbc_levels.specs.Resources.{page_resource}
 use Rattle.fbc_world.specs.History.{History, Recording, happens, recorded}
 use Rattle.fbc_world.specs.Locks.{granted_to, locks_of, with_grant}
 use Rattle.fbc_world.specs.Locks as locks
@@ -38,7 +38,7 @@ waits_grant_none None is = absurd cc
 waits_grant_none (Some circle) is = absurd cc
 
 module _ (before after : Recording) (who : ℕ) (events : List LocalEvent) (answer : Answer) where
-  -- an ask that is granted at once
+  -- An ask that is granted at once.
   module _ (resource : Resource) (level : Level) (wait : Bool) (word : ℕ) (idle : wait_of (locks_in before) who ≡ None) where
     pub locks_asked : Performs before after who events answer (ask.Lock resource level wait word) → answer ≡ answers.Granted
         → locks_in after ≡ after_ask (locks_in before) who resource level word asked.Granted
@@ -58,7 +58,7 @@ module _ (before after : Recording) (who : ℕ) (events : List LocalEvent) (answ
           go (asked.Room used) told comes = absurd (let clash : answers.Room used ≡ answers.Granted = sym comes.0 ∙ is in cc)
           go (asked.Dead dead) told comes = absurd (let clash : answers.Reaped dead ≡ answers.Granted = sym comes.answered ∙ is in cc)
 
-  -- a look of one that waits no more
+  -- A look of one that waits no more.
   pub locks_looked : Performs before after who events answer ask.Look → answer ≡ answers.Granted → locks_in after ≡ locks_in before
   locks_looked done is = go (answer_to_look (locks_in done.between) who) done.step ∙ (leaves before done.between who events done.local).locks where
     go : (seen : Looked) → LookComesTo done.between after who answer seen → locks_in after ≡ locks_in done.between
@@ -66,7 +66,7 @@ module _ (before after : Recording) (who : ℕ) (events : List LocalEvent) (answ
     go (looked.NotYet holder) comes = absurd (let clash : answers.NotYet holder ≡ answers.Granted = sym comes.0 ∙ is in cc)
     go (looked.Dead dead) comes = absurd (let clash : answers.Reaped dead ≡ answers.Granted = sym comes.answered ∙ is in cc)
 
--- grants to others leave the first owner without requests
+-- Grants to others leave the first owner without requests.
 others_granted : (resource : Resource) (s later : LockState) (grants : List Event) → GrantedOn resource s grants later → AllByRecursion IsOthers s.requests
     → (h : History) → AllByRecursion IsOthers (locks_of h).requests → AllByRecursion IsOthers (locks_of (lengthened h grants)).requests
 others_granted resource _ _ _ (ended s later grants none is empty) others h all = rw empty all
@@ -76,7 +76,7 @@ others_granted resource _ _ _ (granted s later grants rest r level next waits is
     (happens r.owner (act.Grant resource level) false ∷ h)
     (all_map IsOthers IsOthers (with_grant r.owner resource level) (λ x it. it) (entered (locks_of h).requests r.owner resource 0) (all_entered IsOthers (locks_of h).requests r.owner resource 0 all other)))
 
--- a page that is given back
+-- A page that is given back.
 pub others_lowered : (before after : Recording) (events : List LocalEvent) (answer : Answer) → Performs before after 1 events answer (ask.Lower (page_resource 0) Free)
     → AllByRecursion IsOthersOrPage (locks_in before).requests → AllByRecursion IsOthers (locks_in after).requests
 others_lowered before after events answer done only = go done.step.1 where

@@ -8,43 +8,43 @@ use Rattle.fbc_region.specs.Adding.{by}
 use Rattle.fbc_region.specs.Shared.{locks_in}
 use Rattle.fbc_world.specs.declared.events.Act.TheVariants.{Opened}
 use Rattle.fbc_world.specs.declared.events.Event.{Event}
-use Rattle.fbc_world.specs.Holdings.{page_resource}
+use Rattle.fbc_levels.specs.Resources.{page_resource}
 use Rattle.fbc_world.specs.History.{Recording, recorded}
 use Rattle.fbc_world.specs.Owners.{is_alive}
 
--- the events of a file that was opened and no more, with room for so many lock requests
+-- The events of a file that was opened and no more, with room for so many lock requests.
 abbrev pub has_opened : ℕ → List Event
 has_opened locks = by 0 (Opened locks) ∷ []
 
--- a request of the second owner, which lives, for something below this page; it does not wait
+-- A request of the second owner, which lives, for something below this page; it does not wait.
 abbrev pub IsHeldBelow : ℕ → Request → Type 0
 IsHeldBelow page r = (r.owner ≡ 2) × (r.resource.key < page) × (r.waiting ≡ None) × (r.alive ≡ true)
 
--- both owners are alive, and all requests are the second owner's, for pages below this one
+-- Both owners are alive, and all requests are the second owner's, for pages below this one.
 pub record HoldsBelow (page : ℕ) (journal : Recording) : Type 0 where
   pub first : is_alive (recorded journal) 1 ≡ true
   pub second : is_alive (recorded journal) 2 ≡ true
   pub held : AllByRecursion (IsHeldBelow page) (locks_in journal).requests
 
--- not a request of the first owner
+-- Not a request of the first owner.
 abbrev pub IsOthers : Request → Type 0
 IsOthers r = is_by 1 r ≡ false
 
--- the first owner is alive and has no request
+-- The first owner is alive and has no request.
 pub record IsFree (journal : Recording) : Type 0 where
   pub alive : is_alive (recorded journal) 1 ≡ true
   pub none : AllByRecursion IsOthers (locks_in journal).requests
 
--- a request of the first owner only if it is for page 0
+-- A request of the first owner only if it is for page 0.
 abbrev pub IsOthersOrPage : Request → Type 0
 IsOthersOrPage r = is_by 1 r ≡ true → is_of 1 (page_resource 0) r ≡ true
 
--- the first owner is alive and has no request but one for page 0
+-- The first owner is alive and has no request but one for page 0.
 pub record HasOnlyPage (journal : Recording) : Type 0 where
   pub alive : is_alive (recorded journal) 1 ≡ true
   pub only : AllByRecursion IsOthersOrPage (locks_in journal).requests
 
--- what the first owner needs for its ask, its look and its lowering: these are the steps 0, 1 and 2
+-- What the first owner needs for its ask, its look and its lowering: these are the steps 0, 1 and 2.
 abbrev pub IsReadyFor : ℕ → Recording → Type 0
 IsReadyFor zero journal = IsFree journal
 IsReadyFor (suc step) journal = HasOnlyPage journal

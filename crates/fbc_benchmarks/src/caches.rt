@@ -2,7 +2,7 @@
 
 ghost use Rattle.std.specs.Prelude.{IfOk};
 ghost use Rattle.fbc_cache.specs.Wants.{MayWant};
-ghost use Rattle.fbc_kinds.specs.HeaderSpelling.{IsShape};
+ghost use Rattle.fbc_kinds.specs.HeaderSpelling.{IsFileShape};
 
 use crate::pages::fill_header;
 use anyhow::{Result, bail};
@@ -30,7 +30,7 @@ pub fn full_cache(alloc: Global, buffers: u32) -> Result<Cache> {
 
 /// The shape of a file that begins with the sample header.
 fn shape() -> Result<Shape>
-    ensures { IfOk result IsShape }
+    ensures { IfOk result IsFileShape }
 {
     let mut header = [0; 1024];
     fill_header(&mut header);

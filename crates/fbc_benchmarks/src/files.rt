@@ -4,17 +4,16 @@
 //! the records of the third, and the others have records with one version each.
 
 ghost use Rattle.std.specs.Prelude.{◌≡◌, ◌≤◌, ◌<◌, length, IfOk};
-ghost use Rattle.fbc_kinds.specs.HeaderSpelling.{IsShape};
+ghost use Rattle.fbc_kinds.specs.HeaderSpelling.{IsFileShape};
 ghost use Rattle.fbc_kinds.specs.Edits.{IsWithinLimits, value_length};
 ghost use Rattle.fbc_kinds.specs.Limits.{IsPageSize};
 ghost use Rattle.fbc_benchmarks.specs.Plans.{AreTakenFirst, IsPlan};
 
 use crate::plans::{FIRST_DATA, FIRST_POINTER, INVENTORY, Plan, TIP, TRANSACTIONS, covered, slots};
 use anyhow::Result;
+use fbc_apply::apply;
 use fbc_cells::{encode_data, encode_pointer};
-use fbc_kinds::{
-    ApplyFault, Cell, Edit, Flag, Inventory, Listed, Page, Shape, State, Value, apply,
-};
+use fbc_kinds::{ApplyFault, Cell, Edit, Flag, Inventory, Listed, Page, Shape, State, Value};
 use fbc_pages::{encode_header, encode_inventory, encode_tip};
 use std::alloc::{AllocError, Global};
 use std::io::Write;
@@ -76,7 +75,7 @@ fn page(alloc: Global, plan: &Plan, number: u32) -> Result<Page, ApplyFault>
 
 /// Writes the bytes of a page.
 fn encode_page(shape: &Shape, page: &Page, out: &mut [u8])
-    requires shape { IsShape shape.now }
+    requires shape { IsFileShape shape.now }
     requires page { IsWithinLimits shape.now page.now }
     requires length { length out.old ≡ shape.now.size }
 {
@@ -94,7 +93,7 @@ fn encode_page(shape: &Shape, page: &Page, out: &mut [u8])
 
 /// The greatest length of a relation's values.
 fn value_length(shape: &Shape, relation: u8) -> u8
-    requires { IsShape shape.now }
+    requires { IsFileShape shape.now }
     ensures value { result ≡ value_length shape.now relation }
     ensures limit { result ≤ 200 }
 {

@@ -1,7 +1,10 @@
-//! The program `fbc_benchmarks`: `pages COUNT` times the codecs of pages beside a plain copy, and
-//! `script BYTES` the reading of scripts. What it counts goes to the standard output and the seconds,
-//! which vary, to the standard error. `file SIZE PAGES PATH` makes a sound file for the check of files
-//! to be timed over, `steps COUNT` times the steps of a region, and `caches BUFFERS COUNT` the wants of a cache.
+//! The program `fbc_benchmarks`: `pages COUNT` times the codecs of pages beside a plain copy, and `script
+//! BYTES` the reading of scripts. What it counts goes to the standard output and the seconds, which vary, to
+//! the standard error. `file SIZE PAGES PATH` makes a sound file for the check of files to be timed over,
+//! `steps COUNT` times the steps of a region, and `caches BUFFERS COUNT` the wants of a cache.
+//!
+//! - **Proved**: each part is safe and returns, and calls the libraries where their conditions hold. Of times
+//!   nothing is proved; what was measured stands in docs/BENCHMARKS.md.
 #![tactic(auto)]
 
 mod caches;

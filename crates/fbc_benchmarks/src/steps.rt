@@ -7,7 +7,7 @@ ghost use Rattle.fbc_lock_table.specs.declared.answers.Asked.TheVariants as aske
 ghost use Rattle.fbc_lock_table.specs.Answers.{MayAsk};
 ghost use Rattle.fbc_lock_table.specs.Effects.{after_ask};
 ghost use Rattle.fbc_region.specs.Shared.{HasReserved, locks_in};
-ghost use Rattle.fbc_world.specs.Holdings.{page_resource};
+ghost use Rattle.fbc_levels.specs.Resources.{page_resource};
 ghost use Rattle.fbc_world.specs.History.{recorded};
 ghost use Rattle.fbc_world.specs.Owners.{is_alive};
 

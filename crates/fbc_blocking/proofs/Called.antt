@@ -10,7 +10,7 @@ use Rattle.fbc_levels.specs.Resources.{is_same_series, is_same_resource}
 use Rattle.fbc_levels.specs.LockState.{LockState, granted_of}
 use Rattle.fbc_blocking.specs.Callbacks.{page_of, is_of_other, is_against, is_kept_out, IsPast, is_past, is_called, with_called, IsNextPage, KeepsNobodyOut}
 
--- one more request
+-- One more request.
 fold_next : {X Y : Type 0} (f : Y → X → Y) (xs : List X) (y : Y) (k : ℕ) (x : X) → slice_get xs k ≡ Some x → f (fold f y (take k xs)) x ≡ fold f y (take (suc k) xs)
 fold_next f [] y k x at = absurd (cc)
 fold_next f (z ∷ xs) y zero x at =
@@ -22,21 +22,21 @@ pub fold_step : {X Y : Type 0} (f : Y → X → Y) (xs : List X) (y : Y) (k : �
 fold_step f xs y k x at = rw add-one (fold_next f xs y k x at)
 
 module _ (s : LockState) (owner : ℕ) (above : Option ℕ) where
-  -- the request waits for this page
+  -- The request waits for this page.
   abbrev at_page : ℕ → Request → Bool
   at_page page r = is_called s owner above r && (r.resource.key == page)
 
-  -- the page is called for, here or before, and no request is called for a lesser one
+  -- The page is called for, here or before, and no request is called for a lesser one.
   record IsLeast (before : Option ℕ) (rs : List Request) (page : ℕ) : Type 0 where
     source : (before ≡ Some page) ⊎ (list_any (at_page page) rs ≡ true)
     below : AllByRecursion (λ r. is_called s owner above r ≡ true → page ≤ r.resource.key) rs
     kept : IfSome before (λ other. page ≤ other)
 
-  -- none is called for
+  -- None is called for.
   abbrev NoneCalled : Option ℕ → List Request → Type 0
   NoneCalled before rs = (before ≡ None) × AllByRecursion (λ r. is_called s owner above r ≡ false) rs
 
-  -- the two together, by what the fold gives
+  -- The two together, by what the fold gives.
   abbrev Folds : Option ℕ → List Request → Option ℕ → Type 0
   Folds before rs after = MatchOption after (NoneCalled before rs) (IsLeast before rs)
 
@@ -51,7 +51,7 @@ module _ (s : LockState) (owner : ℕ) (above : Option ℕ) where
     source (inl is) = inl is
     source (inr any) = inr (rw (not_here, any) refl)
 
-  -- of two pages the lesser is one of them
+  -- Of two pages the lesser is one of them.
   one_of : (a b : ℕ) → (min a b ≡ a) ⊎ (min a b ≡ b)
   one_of a b = grind (arith)
 
@@ -62,7 +62,7 @@ module _ (s : LockState) (owner : ℕ) (above : Option ℕ) where
   or_true true = refl
   or_true false = refl
 
-  -- the request is called for: the page so far is replaced if its own is less
+  -- The request is called for: the page so far is replaced if its own is less.
   taken : (before : Option ℕ) (r : Request) (rs : List Request) (least : ℕ) (after : Option ℕ) → is_called s owner above r ≡ true → (before ≡ Some least) ⊎ (r.resource.key ≡ least) → least ≤ r.resource.key → IfSome before (λ other. least ≤ other) → Folds (Some least) rs after → Folds before (r ∷ rs) after
   taken before r rs least None is from own other folds = absurd (let none : Some least ≡ None = folds.0 in cc)
   taken before r rs least (Some page) is from own other folds = record {
@@ -94,7 +94,7 @@ module _ (s : LockState) (owner : ℕ) (above : Option ℕ) where
       from (inl is') = inl (ap (λ (n : ℕ). Some n) (sym is'))
       from (inr is') = inr (sym is')
 
-  -- parts of a test
+  -- Parts of a test.
   left : (b c : Bool) → (b && c) ≡ true → b ≡ true
   left true c is = refl
   left false c is = absurd (cc)
@@ -117,7 +117,7 @@ module _ (s : LockState) (owner : ℕ) (above : Option ℕ) where
   is_past_page None page is = tt
   is_past_page (Some n) page is = grind (arith, nat_tests)
 
-  -- what waits for a page past `above` is called for there
+  -- What waits for a page past `above` is called for there.
   kept_out_is_called : (page : ℕ) (r : Request) → IsPast above page → is_kept_out owner page (granted_of s owner (page_of page)) r ≡ true → at_page page r ≡ true
   kept_out_is_called page r past out =
       let other = left (is_of_other owner page r) (is_against (granted_of s owner (page_of page)) r) out in
@@ -129,7 +129,7 @@ module _ (s : LockState) (owner : ℕ) (above : Option ℕ) where
       let At : Resource → Type 0 = λ a. a.key == page ≡ true in
       both _ _ (both _ _ (both _ _ (subst Series' same refl) (subst Past same (comes_past above page past))) (subst Out same out)) (subst At same (self_page page))
 
-  -- and the other way round
+  -- And the other way round.
   called_page : (page : ℕ) (r : Request) → at_page page r ≡ true → r.resource ≡ page_of page
   called_page page r is =
       let series = left (is_same_series r.resource.series Page) (is_past above r.resource.key) (left _ (is_kept_out owner r.resource.key (granted_of s owner r.resource) r) (left (is_called s owner above r) (r.resource.key == page) is)) in
@@ -147,7 +147,7 @@ module _ (s : LockState) (owner : ℕ) (above : Option ℕ) where
       let Past : Resource → Type 0 = λ a. is_past above a.key ≡ true in
       is_past_page above page (subst Past (called_page page r is) past)
 
-  -- a search finds one where a test does
+  -- A search finds one where a test does.
   some_found : (a q : Request → Bool) → ((r : Request) → a r ≡ true → q r ≡ true) → (rs : List Request) → list_any a rs ≡ true → IsSome (option_map (λ (r : Request). r.owner) (find q rs))
   some_found a q gives [] any = absurd (cc)
   some_found a q gives (r ∷ rs) any = step (q r) refl (a r) refl any (some_found a q gives rs) where
@@ -160,7 +160,7 @@ module _ (s : LockState) (owner : ℕ) (above : Option ℕ) where
   none_found q gives [] none = refl
   none_found q gives (r ∷ rs) none = rw (gives r none.0) (none_found q gives rs none.1)
 
-  -- what follows from each that passes follows where one does
+  -- What follows from each that passes follows where one does.
   from_any : (G : Type 0) (a : Request → Bool) → ((r : Request) → a r ≡ true → G) → (rs : List Request) → list_any a rs ≡ true → G
   from_any G a gives [] any = absurd (cc)
   from_any G a gives (r ∷ rs) any = step (a r) refl any (from_any G a gives rs) where
@@ -168,7 +168,7 @@ module _ (s : LockState) (owner : ℕ) (above : Option ℕ) where
     step true is any' rest = gives r is
     step false is any' rest = rest any'
 
-  -- the least page is not past one on which a search finds somebody
+  -- The least page is not past one on which a search finds somebody.
   below_found : (page other : ℕ) (q : Request → Bool) → ((r : Request) → q r ≡ true → at_page other r ≡ true) → (rs : List Request) → AllByRecursion (λ r. is_called s owner above r ≡ true → page ≤ r.resource.key) rs → IsSome (option_map (λ (r : Request). r.owner) (find q rs)) → page ≤ other
   below_found page other q gives [] below some = absurd (cc)
   below_found page other q gives (r ∷ rs) below some = step (q r) refl some (below_found page other q gives rs below.1) where

@@ -4,7 +4,7 @@ use Rattle.std.specs.List.{list_all, filter_map, cons_option}
 use Rattle.std.specs.Option.{option_map_or}
 
 module _ {X Y : Type 0} (p : Y → Bool) (h : X → Option Y) where
-  -- the first of more requests
+  -- The first of more requests.
   first : (o : Option Y) (ys : List Y) → list_all p (cons_option o ys) ≡ (option_map_or p o true && list_all p ys)
   first None ys = refl
   first (Some y) ys = refl

@@ -21,7 +21,7 @@ pub AreApart-push : (held : List Buffer) (b : Buffer) → buffer_of held b.page 
 AreApart-push [] b none apart = (refl, tt)
 AreApart-push (c ∷ bs) b none apart = grind (arith, nat_tests, none, apart.0, buffer_of-append bs (b ∷ []) c.page, AreApart-push bs b, apart.1)
 
--- buffers of one page behind those of others
+-- Buffers of one page behind those of others.
 apart-behind : (page : ℕ) (held ys : List Buffer) → AreApart held → AreApart ys → ((other : ℕ) → nat_eq page other ≡ false → buffer_of ys other ≡ None) → AreApart (without page held ++ ys)
 apart-behind page [] ys apart apart' others = apart'
 apart-behind page (b ∷ bs) ys apart apart' others =
@@ -31,12 +31,12 @@ pub AreApart-touched : (page : ℕ) (held : List Buffer) → AreApart held → A
 AreApart-touched page held apart =
     apart-behind page held (filter (is_of page) held) apart (AreApart-filter (is_of page) held apart) (λ other differs. grind (arith, differs, buffer_of-others page held other))
 
--- a page has one buffer at most
+-- A page has one buffer at most.
 pub AreApart-once : (page : ℕ) (held : List Buffer) → AreApart held → length (filter (is_of page) held) ≤ 1
 AreApart-once page [] apart = omega (arith)
 AreApart-once page (b ∷ bs) apart = grind (arith, nat_tests, common_steps, apart.0, untouched page bs, AreApart-once page bs apart.1)
 
--- the same for all of what a Holding says
+-- The same for all of what a Holding says.
 pub IsHolding-map : (f : Buffer → Buffer) → KeepsPage f → (room : ℕ) (held : List Buffer) → IsHolding (record { room = room; held = held }) → IsHolding (record { room = room; held = map f held })
 IsHolding-map f keeps room held h = record { few = grind (arith, common_steps, h.few); once = AreApart-map f keeps held h.once }
 

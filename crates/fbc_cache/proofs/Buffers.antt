@@ -10,26 +10,27 @@ use Rattle.fbc_levels.specs.declared.levels.Level.{Level}
 use Rattle.fbc_levels.specs.declared.levels.Level.TheVariants.{Ex, Free}
 use Rattle.fbc_buffers.specs.declared.buffers.Buffer.{Buffer}
 use Rattle.fbc_buffers.specs.Holding.{AreApart, buffer_of, granted_buffer, granted_wait, is_of, touched, waiting_buffer, with_blocking, with_copy, with_dirt, with_level, with_pin, without}
-use Rattle.fbc_cache.specs.Cache.{HasCopy, HasLevel, IsBuffer, is_page_level}
+use Rattle.fbc_cache.specs.Cache.{HasCopy, HasLevel, IsBuffer}
+use Rattle.fbc_levels.specs.Levels.{is_page_level}
 use Rattle.fbc_cache.specs.Wants.{is_idle, is_unread}
 use Rattle.fbc_cache.proofs.Lists.{all-append, all-both, all-filter, all-map}
 
--- a page that is not found has no buffer
+-- A page that is not found has no buffer.
 none_at : (q : Buffer → Bool) (page : ℕ) (held : List Buffer) → buffer_of held page ≡ None → AllByRecursion (λ b. is_of page b ≡ true → q b ≡ true) held
 none_at q page [] none = tt
 none_at q page (b ∷ bs) none = grind (arith, nat_tests, none, none_at q page bs)
 
--- what is true of the buffer that is found of a page is true of each that is of this page
+-- What is true of the buffer that is found of a page is true of each that is of this page.
 pub at_page : (q : Buffer → Bool) (page : ℕ) (held : List Buffer) → AreApart held → option_map_or q (buffer_of held page) false ≡ true → AllByRecursion (λ b. is_of page b ≡ true → q b ≡ true) held
 at_page q page [] apart is = tt
 at_page q page (b ∷ bs) apart is = grind (arith, nat_tests, apart.0, is, none_at q page bs, at_page q page bs apart.1)
 
 module _ (shape : Shape) where
-  -- all that a cache says of its buffers
+  -- All that a cache says of its buffers.
   abbrev pub AreBuffers : List Buffer → Type 0
   AreBuffers held = AllByRecursion (IsBuffer shape) held
 
-  -- a change that keeps each buffer one
+  -- A change that keeps each buffer one.
   abbrev pub Keeps : (Buffer → Buffer) → Type 0
   Keeps f = (b : Buffer) → IsBuffer shape b → IsBuffer shape (f b)
 
@@ -46,13 +47,13 @@ module _ (shape : Shape) where
   buffers-touched page held all =
       all-append (IsBuffer shape) (without page held) (filter (is_of page) held) (buffers-filter (λ b. not (is_of page b)) held all) (buffers-filter (is_of page) held all)
 
-  -- a change of the buffers of a page, where what is found of it passes a test
+  -- A change of the buffers of a page, where what is found of it passes a test.
   pub buffers-at : (q : Buffer → Bool) (page : ℕ) (f : Buffer → Buffer) → ((b : Buffer) → (is_of page b ≡ true → q b ≡ true) → IsBuffer shape b → IsBuffer shape (f b)) → (held : List Buffer) → AreApart held → option_map_or q (buffer_of held page) false ≡ true → AreBuffers held → AreBuffers (map f held)
   buffers-at q page f keeps held apart is all =
       all-map (λ b. IsBuffer shape b × (is_of page b ≡ true → q b ≡ true)) (IsBuffer shape) f (λ b both. keeps b both.1 both.0) held
       (all-both (IsBuffer shape) (λ b. is_of page b ≡ true → q b ≡ true) held all (at_page q page held apart is))
 
-  -- no more in use, and the mark
+  -- No more in use, and the mark.
   pub unpin-keeps : (page : ℕ) → Keeps (with_pin page false)
   unpin-keeps page b is = go (is_of page b) where
     go : (t : Bool) → IsBuffer shape (cond t (record b { is_pinned = false }) b)
@@ -65,14 +66,14 @@ module _ (shape : Shape) where
     go true = record { level = is.level; copy = is.copy; dirty = is.dirty; pinned = is.pinned }
     go false = is
 
-  -- written
+  -- Written.
   pub clean-keeps : (page : ℕ) → Keeps (with_dirt page false)
   clean-keeps page b is = go (is_of page b) where
     go : (t : Bool) → IsBuffer shape (cond t (record b { is_dirty = false }) b)
     go true = record { level = is.level; copy = is.copy; dirty = λ passes. absurd (cc); pinned = is.pinned }
     go false = is
 
-  -- in use, where it is held
+  -- In use, where it is held.
   pub pin-keeps : (page : ℕ) (b : Buffer) → (is_of page b ≡ true → is_none b.wanted ≡ true) → IsBuffer shape b → IsBuffer shape (with_pin page true b)
   pin-keeps page b granted is = go (is_of page b) granted where
     wanted-none : (wanted : Option Level) → is_none wanted ≡ true → wanted ≡ None
@@ -83,7 +84,7 @@ module _ (shape : Shape) where
     go true granted = record { level = is.level; copy = is.copy; dirty = is.dirty; pinned = λ passes. wanted-none b.wanted (granted refl) }
     go false granted = is
 
-  -- granted after a wait
+  -- Granted after a wait.
   pub grant-keeps : Keeps granted_wait
   grant-keeps b is = record {
     level = has_level b.level b.wanted is.level;
@@ -105,7 +106,7 @@ module _ (shape : Shape) where
         let free : level ≡ Free = fits.0 in
         absurd (cc)
 
-  -- in a lower level, where it is not in use
+  -- In a lower level, where it is not in use.
   pub level-keeps : (page : ℕ) (level : Level) → is_page_level level ≡ true → (b : Buffer) → (is_of page b ≡ true → is_idle b ≡ true) → IsBuffer shape b → IsBuffer shape (with_level page level b)
   level-keeps page level fits b idle is = go (is_of page b) idle where
     has_level : (wanted : Option Level) (dirty pinned : Bool) → (is_none wanted && not dirty && not pinned) ≡ true → HasLevel level wanted
@@ -124,7 +125,7 @@ module _ (shape : Shape) where
     }
     go false idle = is
 
-  -- read, where it was not
+  -- Read, where it was not.
   pub read-keeps : (page : ℕ) (shown : Option Page) → IfSome shown (IsWithinLimits shape) → (b : Buffer) → (is_of page b ≡ true → is_unread b ≡ true) → IsBuffer shape b → IsBuffer shape (with_copy page shown b)
   read-keeps page shown limits b unread is = go (is_of page b) unread where
     has_copy : (wanted : Option Level) (copy shown : Option Page) → (is_none wanted && is_none copy) ≡ true → IfSome shown (IsWithinLimits shape) → HasCopy shape wanted shown
@@ -144,7 +145,7 @@ module _ (shape : Shape) where
     }
     go false unread = is
 
-  -- new, held or waited for
+  -- New, held or waited for.
   pub granted-is : (page : ℕ) (level : Level) → is_page_level level ≡ true → IsBuffer shape (granted_buffer page level)
   granted-is page level fits = record { level = fits; copy = tt; dirty = λ passes. absurd (cc); pinned = λ passes. refl }
 

@@ -11,13 +11,15 @@ use Rattle.fbc_levels.specs.declared.levels.Level.{Level}
 use Rattle.fbc_precedence.specs.Precedence.{is_without}
 use Rattle.fbc_buffers.specs.declared.buffers.Buffer.{Buffer}
 use Rattle.fbc_buffers.specs.Holding.{AreApart, buffer_of, granted_wait, is_of, is_waiting, touched, with_blocking, with_copy, with_dirt, with_level, with_pin, without}
-use Rattle.fbc_cache.specs.Cache.{CacheState, IsBuffer, IsCache, is_dirty_in, is_granted_in, is_page_level}
-use Rattle.fbc_cache.specs.Wants.{is_idle, is_low, is_unread}
+use Rattle.fbc_cache.specs.Cache.{CacheState, IsBuffer, IsCache, is_dirty_in, is_granted_in}
+use Rattle.fbc_levels.specs.Levels.{is_page_level}
+use Rattle.fbc_cache.specs.Wants.{is_idle, is_unread}
+use Rattle.fbc_precedence.specs.Search.{is_blocked}
 use Rattle.fbc_cache.proofs.Buffers.{AreBuffers, buffers-at, buffers-filter, buffers-map, buffers-push, buffers-touched, clean-keeps, grant-keeps, level-keeps, mark-keeps, pin-keeps, read-keeps, unpin-keeps}
 use Rattle.fbc_cache.proofs.Waiting.{KeepsWait, waits, waits-append, waits-filter, waits-granted, waits-map, waits-none, waits-touched}
 use Rattle.fbc_cache.proofs.HeldPairs.{ArePairs, KeepOthers, KeepsHeld, keep-granted, keep-map, keep-push, keep-touched, keep-withdrawn, others-map, others-without, pairs-cleared, pairs-keep, pairs-others}
 
--- what an invariant says of the buffers and the pairs
+-- What an invariant says of the buffers and the pairs.
 pub record Holds (shape : Shape) (held : List Buffer) (order : List Edge) : Type 0 where
   pub buffers : AreBuffers shape held
   pub one_wait : waits held ≤ 1
@@ -29,7 +31,7 @@ holds-cache c is = record { buffers = is.buffers; one_wait = is.one_wait; pairs 
 pub cache-holds : (c : CacheState) → Holds c.shape c.held c.pairs → IsCache c
 cache-holds c holds = record { buffers = holds.buffers; one_wait = holds.one_wait; pairs = holds.pairs }
 
--- an idle page is clean
+-- An idle page is clean.
 pub idle-clean : (held : List Buffer) (page : ℕ) → option_map_or is_idle (buffer_of held page) false ≡ true → is_dirty_in held page ≡ false
 idle-clean held page idle = go (buffer_of held page) idle where
   parts : (s t u : Bool) → (s && not t && not u) ≡ true → t ≡ false
@@ -40,7 +42,7 @@ idle-clean held page idle = go (buffer_of held page) idle where
   go (Some b) idle = parts (is_none b.wanted) b.is_dirty b.is_pinned idle
 
 module _ (shape : Shape) (held : List Buffer) (pairs : List Edge) (is : Holds shape held pairs) where
-  -- a change that keeps level, wait and dirt, where each buffer stays one
+  -- A change that keeps level, wait and dirt, where each buffer stays one.
   changed : (f : Buffer → Buffer) → KeepsHeld f → KeepsWait f → AreBuffers shape (map f held) → Holds shape (map f held) pairs
   changed f keeps wait buffers = record {
     buffers = buffers;
@@ -73,25 +75,25 @@ module _ (shape : Shape) (held : List Buffer) (pairs : List Edge) (is : Holds sh
     pairs = pairs-keep held (touched page held) (keep-touched page held) pairs is.pairs;
   }
 
-  -- a change of one page's buffers, which is the second of no pair and not dirty
-  changed-idle : (page : ℕ) (after : List Buffer) → KeepOthers page held after → is_dirty_in held page ≡ false → is_low pairs page ≡ false → waits after ≤ waits held → AreBuffers shape after → Holds shape after pairs
+  -- A change of one page's buffers, which is the second of no pair and not dirty.
+  changed-idle : (page : ℕ) (after : List Buffer) → KeepOthers page held after → is_dirty_in held page ≡ false → is_blocked pairs page ≡ false → waits after ≤ waits held → AreBuffers shape after → Holds shape after pairs
   changed-idle page after keep clean low wait buffers = record {
     buffers = buffers;
     one_wait = omega (arith, wait, is.one_wait);
     pairs = pairs-others page held after keep pairs clean low is.pairs;
   }
 
-  pub holds-without : (page : ℕ) → is_dirty_in held page ≡ false → is_low pairs page ≡ false → Holds shape (without page held) pairs
+  pub holds-without : (page : ℕ) → is_dirty_in held page ≡ false → is_blocked pairs page ≡ false → Holds shape (without page held) pairs
   holds-without page clean low =
       changed-idle page (without page held) (others-without page held) clean low (waits-filter (λ b. not (is_of page b)) held) (buffers-filter shape (λ b. not (is_of page b)) held is.buffers)
 
-  pub holds-level : (page : ℕ) (level : Level) → AreApart held → option_map_or is_idle (buffer_of held page) false ≡ true → is_low pairs page ≡ false → is_page_level level ≡ true → Holds shape (map (with_level page level) held) pairs
+  pub holds-level : (page : ℕ) (level : Level) → AreApart held → option_map_or is_idle (buffer_of held page) false ≡ true → is_blocked pairs page ≡ false → is_page_level level ≡ true → Holds shape (map (with_level page level) held) pairs
   holds-level page level apart idle low fits =
       changed-idle page (map (with_level page level) held) (others-map page (with_level page level) (λ b. grind (arith)) (λ b differs. grind (arith, differs)) held) (idle-clean held page idle) low
       (omega (arith, waits-map (with_level page level) (λ b. grind (arith)) held))
       (buffers-at shape is_idle page (with_level page level) (level-keeps shape page level fits) held apart idle is.buffers)
 
-  -- a page is read
+  -- A page is read.
   copy-held : (page : ℕ) (shown : Option Page) → KeepsHeld (with_copy page shown)
   copy-held page shown = record { page = λ b. grind (arith); level = λ b. grind (arith); dirty = λ b. grind (arith) }
 
@@ -100,7 +102,7 @@ module _ (shape : Shape) (held : List Buffer) (pairs : List Edge) (is : Holds sh
       changed (with_copy page shown) (copy-held page shown) (λ b. grind (arith))
       (buffers-at shape is_unread page (with_copy page shown) (read-keeps shape page shown limits) held apart unread is.buffers)
 
-  -- a page is written
+  -- A page is written.
   pub holds-written : (page : ℕ) → Holds shape (map (with_dirt page false) held) (filter (is_without page) pairs)
   holds-written page = record {
     buffers = buffers-map shape (with_dirt page false) (clean-keeps shape page) held is.buffers;
@@ -108,7 +110,7 @@ module _ (shape : Shape) (held : List Buffer) (pairs : List Edge) (is : Holds sh
     pairs = pairs-cleared page held (map (with_dirt page false) held) (others-map page (with_dirt page false) (λ b. grind (arith)) (λ b differs. grind (arith, differs)) held) pairs is.pairs;
   }
 
-  -- what is waited for is granted, or is waited for no more
+  -- What is waited for is granted, or is waited for no more.
   pub holds-granted : Holds shape (map granted_wait held) pairs
   holds-granted = record {
     buffers = buffers-map shape granted_wait (grant-keeps shape) held is.buffers;
@@ -123,7 +125,7 @@ module _ (shape : Shape) (held : List Buffer) (pairs : List Edge) (is : Holds sh
     pairs = pairs-keep held (filter (λ b. not (is_waiting b)) held) (keep-withdrawn shape held is.buffers) pairs is.pairs;
   }
 
-  -- one more buffer
+  -- One more buffer.
   pub holds-push : (b : Buffer) → buffer_of held b.page ≡ None → list_any is_waiting held ≡ false → IsBuffer shape b → Holds shape (held ++ b ∷ []) pairs
   holds-push b none alone buffer = record {
     buffers = buffers-push shape held b is.buffers buffer;

@@ -4,7 +4,8 @@ use Rattle.std.proofs.lemmas.Bool.Decides.{nat_tests}
 use Rattle.std.proofs.Math.Seq.{take-length, take-suc}
 use Rattle.std.specs.List.{AllByRecursion, find, list_any}
 use Rattle.fbc_kinds.specs.declared.edges.Edge.{Edge}
-use Rattle.fbc_precedence.specs.Precedence.{IsBlocked, IsNextToWrite, IsPair, StandsBefore, is_pair, straight, through}
+use Rattle.fbc_kinds.specs.Order.{straight, through}
+use Rattle.fbc_precedence.specs.Precedence.{IsBlocked, IsNextToWrite, IsPair, ComesBefore, is_pair}
 use Rattle.fbc_buffers.specs.declared.buffers.Buffer.{Buffer}
 use Rattle.fbc_buffers.specs.Holding.{AreApart, buffer_of, is_of}
 use Rattle.fbc_buffers.proofs.Victim.{buffer_of-found}
@@ -13,7 +14,7 @@ use Rattle.fbc_cache.specs.Edits.{IsFree, IsLeastDirty, IsNextDirty}
 use Rattle.fbc_cache.proofs.HeldPairs.{ArePairs}
 use Rattle.fbc_cache.proofs.Lists.{all-append, all-implied}
 
--- the high page of a recorded pair is dirty
+-- The high page of a recorded pair is dirty.
 pair-dirty : (held : List Buffer) (pairs : List Edge) → ArePairs held pairs → (high low : ℕ) → IsPair pairs high low → is_dirty_in held high ≡ true
 pair-dirty held [] all high low is = absurd (cc)
 pair-dirty held (pair ∷ pairs) all high low is = step (is_pair high low pair) refl is (pair-dirty held pairs all.1 high low) where
@@ -23,42 +24,42 @@ pair-dirty held (pair ∷ pairs) all high low is = step (is_pair high low pair) 
       subst (λ page. is_dirty_in held page ≡ true) high-is all.0.high
   step false other is' rest = rest is'
 
--- a page that stands before another is dirty
-pub before-dirty : (held : List Buffer) (pairs : List Edge) → ArePairs held pairs → (high low : ℕ) → StandsBefore pairs high low → is_dirty_in held high ≡ true
+-- A page that stands before another is dirty.
+pub before-dirty : (held : List Buffer) (pairs : List Edge) → ArePairs held pairs → (high low : ℕ) → ComesBefore pairs high low → is_dirty_in held high ≡ true
 before-dirty held pairs all _ _ (straight high low is) = pair-dirty held pairs all high low is
 before-dirty held pairs all _ _ (through high between low is rest) = pair-dirty held pairs all high between is
 
 module _ (c : CacheState) (all : ArePairs c.held c.pairs) where
-  -- a dirty page that no page stands before is next, and only such a page is
+  -- A dirty page that no page stands before is next, and only such a page is.
   pub next-dirty : (page : ℕ) → is_dirty_in c.held page ≡ true → (IsBlocked c.pairs page → ⊥) → IsNextDirty c page
   next-dirty page dirty free = record { dirty = dirty; next = λ other is path. free (other, path) }
 
   pub next-free : (page : ℕ) → IsNextDirty c page → IsBlocked c.pairs page → ⊥
   next-free page is some = is.next some.0 (before-dirty c.held c.pairs all some.0 page some.1) some.1
 
-  -- the page that is written next for a dirty one
+  -- The page that is written next for a dirty one.
   pub next-of : (page next : ℕ) → is_dirty_in c.held page ≡ true → IsNextToWrite c.pairs page next → IsNextDirty c next
   next-of page next dirty is = next-dirty next (step is.among) is.free where
-    step : (next ≡ page) ⊎ StandsBefore c.pairs next page → is_dirty_in c.held next ≡ true
+    step : (next ≡ page) ⊎ ComesBefore c.pairs next page → is_dirty_in c.held next ≡ true
     step (inl same) = subst (λ p. is_dirty_in c.held p ≡ true) (sym same) dirty
     step (inr path) = before-dirty c.held c.pairs all next page path
 
--- a page is dirty where the first dirty buffer is its own
+-- A page is dirty where the first dirty buffer is its own.
 pub found-dirty : (held : List Buffer) (b : Buffer) → AreApart held → find (λ (a : Buffer). a.is_dirty) held ≡ Some b → is_dirty_in held b.page ≡ true
 found-dirty held b apart is =
     let both = buffer_of-found (λ (a : Buffer). a.is_dirty) held b apart is in
     rw both.0 both.1
 
--- where none is found no page is dirty
+-- Where none is found no page is dirty.
 pub none-dirty : (held : List Buffer) → find (λ (a : Buffer). a.is_dirty) held ≡ None → (page : ℕ) → is_dirty_in held page ≡ false
 none-dirty [] none page = refl
 none-dirty (b ∷ bs) none page = grind (arith, nat_tests, none, none-dirty bs)
 
--- the page is no more than this one's, if this one may be written next
+-- The page is no more than this one's, if this one may be written next.
 abbrev pub Bounds : List Edge → ℕ → Buffer → Type 0
 Bounds pairs least b = IsFree pairs b → least ≤ b.page
 
--- what is known of the buffers so far
+-- What is known of the buffers so far.
 pub record IsLeastOf (c : CacheState) (seen : List Buffer) (least : ℕ) : Type 0 where
   pub next : IsNextDirty c least
   pub bounds : AllByRecursion (Bounds c.pairs least) seen
@@ -85,7 +86,7 @@ least-of-one c seen b least dirty free is = record {
       let same : min least b.page ≡ b.page = grind (arith, nat_tests, more) in
       rw same (record { dirty = dirty; next = λ other is' path. free (other, path) })
 
--- a page that is dirty has a dirty buffer
+-- A page that is dirty has a dirty buffer.
 bounded : (held : List Buffer) (pairs : List Edge) (least page : ℕ) → AllByRecursion (Bounds pairs least) held → is_dirty_in held page ≡ true → (IsBlocked pairs page → ⊥) → least ≤ page
 bounded [] pairs least page all dirty free = absurd (cc)
 bounded (b ∷ bs) pairs least page all dirty free = step (is_of page b) refl dirty (λ later. bounded bs pairs least page all.1 later free) where
@@ -99,7 +100,7 @@ bounded (b ∷ bs) pairs least page all dirty free = step (is_of page b) refl di
 pub least-of-all : (c : CacheState) (least : ℕ) → ArePairs c.held c.pairs → IsLeastOf c c.held least → IsLeastDirty c (Some least)
 least-of-all c least all is = (is.next, λ other other-is. bounded c.held c.pairs least other is.bounds other-is.dirty (next-free c all other other-is))
 
--- a buffer is the one of its page
+-- A buffer is the one of its page.
 pub apart-at : (seen : List Buffer) (b : Buffer) (rest : List Buffer) → AreApart (seen ++ b ∷ rest) → buffer_of (seen ++ b ∷ rest) b.page ≡ Some b
 apart-at [] b rest apart = grind (arith, nat_tests)
 apart-at (a ∷ seen) b rest apart = step (is_of b.page a) refl (apart-at seen b rest apart.1) where
@@ -110,7 +111,7 @@ apart-at (a ∷ seen) b rest apart = step (is_of b.page a) refl (apart-at seen b
       absurd (cc)
   step false other found = found
 
--- the buffer at a place is that of its page
+-- The buffer at a place is that of its page.
 at_place : (held : List Buffer) (i : ℕ) (d : Buffer) → AreApart held → i < length held → buffer_of held (get_or held i d).page ≡ Some (get_or held i d)
 at_place [] i d apart fits = absurd (omega (arith, fits))
 at_place (b ∷ bs) zero d apart fits = grind (arith, nat_tests)
@@ -122,7 +123,7 @@ at_place (b ∷ bs) (suc i) d apart fits = step (is_of (get_or bs i d).page b) r
       absurd (cc)
   step false other found = found
 
--- a turn sees the buffer at a place
+-- A turn sees the buffer at a place.
 module _ (c : CacheState) (i : ℕ) (b : Buffer) (least : ℕ) (fits : i < length c.held) (is : b ≡ get_or c.held i b) (so_far : IsLeastOf c (take i c.held) least) where
   seen : (take i c.held ++ b ∷ []) ≡ take (i + 1) c.held
   seen =
@@ -138,7 +139,7 @@ module _ (c : CacheState) (i : ℕ) (b : Buffer) (least : ℕ) (fits : i < lengt
       let dirty : is_dirty_in c.held b.page ≡ true = rw found free.dirty in
       subst (λ bs. IsLeastOf c bs (min least b.page)) seen (least-of-one c (take i c.held) b least dirty free.free so_far)
 
--- after the last turn all are seen
+-- After the last turn all are seen.
 pub seen-all : (c : CacheState) (items : List Buffer) (i least : ℕ) → c.held ≡ items → length items ≤ i → i ≤ length items → IsLeastOf c (take i c.held) least → IsLeastOf c c.held least
 seen-all c items i least same end within so_far =
     let at : i ≡ length items = omega (arith, end, within) in

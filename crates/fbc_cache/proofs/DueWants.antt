@@ -5,24 +5,25 @@ use Rattle.fbc_levels.specs.declared.levels.Level.TheVariants.{Ex, Free}
 use Rattle.fbc_world.specs.declared.asks.Ask.{Ask}
 use Rattle.fbc_world.specs.declared.asks.Ask.TheVariants as ask
 use Rattle.fbc_world.specs.declared.asks.Cause.TheVariants.{Evict}
-use Rattle.fbc_world.specs.Holdings.{page_resource}
+use Rattle.fbc_levels.specs.Resources.{page_resource}
 use Rattle.fbc_buffers.specs.declared.buffers.Buffer.{Buffer}
 use Rattle.fbc_buffers.specs.Holding.{AreApart, buffer_of, is_waiting, victim_of}
 use Rattle.fbc_cache.specs.declared.needs.Need.{Need}
 use Rattle.fbc_cache.specs.declared.needs.Want.{Want}
 use Rattle.fbc_cache.specs.declared.needs.Want.TheVariants.{Here, Must}
 use Rattle.fbc_cache.specs.Cache.{CacheState, IsBuffer, IsCache}
-use Rattle.fbc_cache.specs.Wants.{IsDueWant, IsHere, MayGiveUp, MayWant, Wants, WantsBuffer, WantsBy, is_due, is_idle, is_low, is_lowering_due, is_pinned_below, is_unread, lock_for, suffices, want_held}
+use Rattle.fbc_cache.specs.Wants.{IsDueWant, IsHere, MayGiveUp, MayWant, Wants, WantsBuffer, WantsBy, is_due, is_idle, is_lowering_due, is_pinned_below, is_unread, lock_for, suffices, want_held}
+use Rattle.fbc_precedence.specs.Search.{is_blocked}
 use Rattle.fbc_cache.proofs.GivesUp.{due-giving}
 use Rattle.fbc_cache.proofs.Headers.{is_buffer-found}
 use Rattle.fbc_cache.proofs.Low.{low-held}
 use Rattle.fbc_cache.proofs.Victims.{any-none, is_victim, none-waits}
 
--- a page that is held, clean and not in use is given up
-idle-lowers : (c : CacheState) (page : ℕ) (b : Buffer) → buffer_of c.held page ≡ Some b → is_idle b ≡ true → is_low c.pairs page ≡ false → is_lowering_due c page Free ≡ true
+-- A page that is held, clean and not in use is given up.
+idle-lowers : (c : CacheState) (page : ℕ) (b : Buffer) → buffer_of c.held page ≡ Some b → is_idle b ≡ true → is_blocked c.pairs page ≡ false → is_lowering_due c page Free ≡ true
 idle-lowers c page b found idle free = rw (found, idle, free) refl
 
--- the four things that a page with a buffer comes to
+-- The four things that a page with a buffer comes to.
 chosen : (c : CacheState) (need : Need) (waits does valid : Bool) → (waits ≡ false → does ≡ false → is_lowering_due c need.page Free ≡ true) → (waits ≡ false → does ≡ true → valid ≡ false → option_map_or is_unread (buffer_of c.held need.page) false ≡ true) → IsDueWant c (if waits then Must ask.Look else if not does then Must (ask.Lower (page_resource need.page) Free) else if valid then Here else Must (ask.Read need.page))
 chosen c need true does valid lowers reads = refl
 chosen c need false false valid lowers reads = lowers refl refl
@@ -34,10 +35,10 @@ module _ (c : CacheState) (need : Need) (is : IsCache c) (may : MayWant c need) 
     known : IsBuffer c.shape b
     known = rw found at (is_buffer-found c.shape c.held need.page is.buffers)
 
-    -- a level that does not do is not EX, so the page is clean
-    not-low : suffices b.level need.level ≡ false → is_low c.pairs need.page ≡ false
-    not-low less = go (is_low c.pairs need.page) refl where
-      go : (t : Bool) → is_low c.pairs need.page ≡ t → t ≡ false
+    -- A level that does not do is not EX, so the page is clean.
+    not-low : suffices b.level need.level ≡ false → is_blocked c.pairs need.page ≡ false
+    not-low less = go (is_blocked c.pairs need.page) refl where
+      go : (t : Bool) → is_blocked c.pairs need.page ≡ t → t ≡ false
       go true low = let held : b.level ≡ Ex = rw found at (low-held c.held c.pairs need.page is.pairs low) in absurd (grind (arith, held, less))
       go false low = refl
 
@@ -57,7 +58,7 @@ module _ (c : CacheState) (need : Need) (is : IsCache c) (may : MayWant c need) 
         (λ granted does invalid. unread granted invalid)
 
   module _ (apart : AreApart c.held) (absent : buffer_of c.held need.page ≡ None) where
-    -- a page that gives its buffer up is held and not in use
+    -- A page that gives its buffer up is held and not in use.
     may-give_up : (victim : ℕ) → victim_of c.held ≡ Some victim → MayGiveUp c victim Free
     may-give_up victim chosen' =
         let v = is_victim c.held victim apart (none-waits c need apart may absent) chosen' in
@@ -70,14 +71,14 @@ module _ (c : CacheState) (need : Need) (is : IsCache c) (may : MayWant c need) 
     due-buffer true want full evicts = rw evicts.is_asked (due-giving c is evicts.victim (Evict need.page) Free evicts.asked (may-give_up evicts.victim evicts.is_victim) evicts.is_due)
     due-buffer false want space is_lock = rw is_lock (due-lock space)
 
-  -- what a need comes to is due
+  -- What a need comes to is due.
   pub due-wants : AreApart c.held → (want : Want) → Wants c need want → IsDueWant c want
   due-wants apart want wants = go (buffer_of c.held need.page) refl wants where
     go : (found : Option Buffer) → buffer_of c.held need.page ≡ found → WantsBy c need found want → IsDueWant c want
     go (Some b) found is_held = rw is_held (due-held b found)
     go None absent wants' = due-buffer apart absent (length c.held == c.room) want refl wants'
 
--- a page may be used exactly where it is held in a level that does, and is valid
+-- A page may be used exactly where it is held in a level that does, and is valid.
 here-chosen : (page : ℕ) (waits does valid : Bool) → (if waits then Must ask.Look else if not does then Must (ask.Lower (page_resource page) Free) else if valid then Here else Must (ask.Read page)) ≡ Here → (waits ≡ false) × (does ≡ true) × (valid ≡ true)
 here-chosen page true does valid is = absurd (cc)
 here-chosen page false false valid is = absurd (cc)

@@ -23,12 +23,12 @@ use Rattle.fbc_cache.proofs.HeldPairs.{Keep, pairs-keep}
 use Rattle.fbc_cache.proofs.Lists.{all-both, all-map}
 use Rattle.fbc_cache.proofs.Waiting.{waits-map}
 
--- each edit makes the same of no copy and of a blank page
+-- Each edit makes the same of no copy and of a blank page.
 pub edited-blank : (shape : Shape) (edit : Edit) → edited shape edit None ≡ applied shape edit Blank
 edited-blank shape (Format kind number relation sequence) = refl
 edited-blank shape _ = refl
 
--- the copy of a page is within its limits
+-- The copy of a page is within its limits.
 pub copy-limits : (shape : Shape) (held : List Buffer) (page : ℕ) → AreBuffers shape held → IfSome (copy_in held page) (IsWithinLimits shape)
 copy-limits shape [] page all = tt
 copy-limits shape (b ∷ bs) page all = step (is_of page b) (copy-limits shape bs page all.1) where
@@ -40,7 +40,7 @@ copy-limits shape (b ∷ bs) page all = step (is_of page b) (copy-limits shape b
   step true rest = own b.wanted b.copy all.0.copy
   step false rest = rest
 
--- the buffers of a page that is held in EX
+-- The buffers of a page that is held in EX.
 no_buffer : (page : ℕ) (held : List Buffer) → buffer_of held page ≡ None → AllByRecursion (λ b. is_of page b ≡ true → b.level ≡ Ex) held
 no_buffer page [] none = tt
 no_buffer page (b ∷ bs) none = grind (arith, nat_tests, none, no_buffer page bs)
@@ -49,7 +49,7 @@ in_ex : (page : ℕ) (held : List Buffer) → AreApart held → level_in held pa
 in_ex page [] apart exclusive = tt
 in_ex page (b ∷ bs) apart exclusive = grind (arith, nat_tests, apart.0, exclusive, no_buffer page bs, in_ex page bs apart.1)
 
--- the buffer of a page that has this content, which is not written
+-- The buffer of a page that has this content, which is not written.
 abbrev pub with_content : ℕ → Page → Buffer → Buffer
 with_content page content b = cond (is_of page b) (record b { copy = Some content; is_dirty = true }) b
 
@@ -70,7 +70,7 @@ content-keeps shape page content limits b both = step (is_of page b) both.1 wher
   }
   step false exclusive = both.0
 
--- two changes come to it
+-- Two changes come to it.
 module _ (page : ℕ) (content : Page) where
   at-once : (b : Buffer) → with_dirt page true (with_copy page (Some content) b) ≡ with_content page content b
   at-once b = step (is_of page b) refl where
@@ -82,7 +82,7 @@ module _ (page : ℕ) (content : Page) where
   all-at-once [] = refl
   all-at-once (b ∷ bs) = λ i. at-once b i ∷ all-at-once bs i
 
--- no page is less dirty by that, and each keeps its level
+-- No page is less dirty by that, and each keeps its level.
 module _ (page : ℕ) (content : Page) where
   content-page : KeepsPage (with_content page content)
   content-page b = grind (arith)
@@ -101,7 +101,7 @@ module _ (page : ℕ) (content : Page) where
     level = λ other is. ap (λ found. option_map_or (λ (b : Buffer). b.level) found Free) (buffer_of-map (with_content page content) content-page held other) ∙ level-stays (buffer_of held other) ∙ is;
   }
 
--- the buffers and the pairs with the content
+-- The buffers and the pairs with the content.
 pub holds-content : (shape : Shape) (held : List Buffer) (pairs : List Edge) → Holds shape held pairs → AreApart held → (page : ℕ) (content : Page) → level_in held page ≡ Ex → IsWithinLimits shape content → Holds shape (map (with_dirt page true) (map (with_copy page (Some content)) held)) pairs
 holds-content shape held pairs is apart page content exclusive limits = subst (λ after. Holds shape after pairs) (sym (all-at-once page content held)) (record {
   buffers = all-map (λ b. IsBuffer shape b × (is_of page b ≡ true → b.level ≡ Ex)) (IsBuffer shape) (with_content page content) (content-keeps shape page content limits) held
@@ -110,12 +110,12 @@ holds-content shape held pairs is apart page content exclusive limits = subst (�
   pairs = pairs-keep held (map (with_content page content) held) (content-keep page content held) pairs is.pairs;
 })
 
--- a copy of a page has its limits
+-- A copy of a page has its limits.
 pub copied-limits : {E : Type 0} (shape : Shape) (page : Page) (copied : Result Page E) → IsWithinLimits shape page → IfOk copied (λ copy. copy ≡ page) → IfOk copied (IsWithinLimits shape)
 copied-limits shape page (Ok copy) limits same = rw same limits
 copied-limits shape page (Err e) limits same = tt
 
--- the cache with the content
+-- The cache with the content.
 pub cache-content : (before now : CacheState) (pointers : List (List ℕ)) → now ≡ record before { pointers = pointers } → (page : ℕ) (content : Page) → level_in before.held page ≡ Ex → IsWithinLimits before.shape content → AreApart before.held → IsCache now → IsCache (record now { held = map (with_dirt page true) (map (with_copy page (Some content)) now.held) })
 cache-content before now pointers same page content exclusive limits apart is =
     let held-is : now.held ≡ before.held = ap (λ (s : CacheState). s.held) same in

@@ -6,7 +6,7 @@ use Rattle.fbc_kinds.specs.declared.pages.Relation.{Relation}
 use Rattle.fbc_kinds.specs.HeaderSpelling.{IsHeader}
 use Rattle.fbc_cache.specs.Remembered.{AreFew}
 
--- what is true at each place is true of all
+-- What is true at each place is true of all.
 all-places : {X : Type 0} (P : X → Type 0) (xs : List X) → ((i : ℕ) (x : X) → slice_get xs i ≡ Some x → P x) → AllByRecursion P xs
 all-places P [] at = tt
 all-places P (x ∷ xs) at = (at zero x refl, all-places P xs (λ i y is. at (suc i) y is))

@@ -13,7 +13,7 @@ use Rattle.fbc_buffers.specs.declared.buffers.Buffer.{Buffer}
 use Rattle.fbc_buffers.specs.Holding.{buffer_of}
 use Rattle.fbc_cache.specs.Cache.{CacheState, IsBuffer, IsCache, HasCopy}
 
--- what all buffers are is what the one that is found is
+-- What all buffers are is what the one that is found is.
 pub is_buffer-found : (shape : Shape) (held : List Buffer) (page : ℕ) → AllByRecursion (IsBuffer shape) held → IfSome (buffer_of held page) (IsBuffer shape)
 is_buffer-found shape [] page all = tt
 is_buffer-found shape (b ∷ bs) page all = grind (arith, nat_tests, all.0, is_buffer-found shape bs page all.1)
@@ -27,14 +27,14 @@ tips-copy shape wanted (Some (kind.Pointer p)) has = omega (arith)
 tips-copy shape wanted (Some (kind.Data d)) has = omega (arith)
 tips-copy shape wanted (Some kind.Blank) has = omega (arith)
 
--- the header names no more transaction inventory pages than it has room for
+-- The header names no more transaction inventory pages than it has room for.
 pub tips-few : (c : CacheState) → IsCache c → (b : Buffer) → buffer_of c.held 0 ≡ Some b → length (option_map_or (λ (h : Header). h.tips) (header_in b.copy) []) ≤ 16
 tips-few c is b found = go (buffer_of c.held 0) found (is_buffer-found c.shape c.held 0 is.buffers) where
   go : (held : Option Buffer) → held ≡ Some b → IfSome held (IsBuffer c.shape) → length (option_map_or (λ (h : Header). h.tips) (header_in b.copy) []) ≤ 16
   go None none known = absurd (cc)
   go (Some d) same known = let equal : d ≡ b = cc in rw (← equal) (tips-copy c.shape d.wanted d.copy known.copy)
 
--- the same of a header that is lent
+-- The same of a header that is lent.
 pub tips-lent : (copy : Option Page) (lent : Option (Bor Header)) → option_copied lent ≡ header_in copy → length (option_map_or (λ (h : Header). h.tips) (header_in copy) []) ≤ 16 → IfSome lent (λ h. length h.now.tips ≤ 16)
 tips-lent copy None is few = tt
 tips-lent copy (Some h) is few = rw (← is) at few

@@ -10,7 +10,7 @@ use Rattle.fbc_buffers.specs.Holding.{KeepsPage, buffer_of, granted_wait, is_of,
 use Rattle.fbc_buffers.proofs.Found.{buffer_of-append, buffer_of-map, buffer_of-page, buffer_of-without}
 use Rattle.fbc_cache.specs.Wants.{is_idle, is_unread}
 
--- what is found is pinned, in the same level and with the same copy
+-- What is found is pinned, in the same level and with the same copy.
 pub record IsPinnedAs (b : Buffer) (found : Option Buffer) : Type 0 where
   pub buffer : Buffer
   pub is : found ≡ Some buffer
@@ -18,7 +18,7 @@ pub record IsPinnedAs (b : Buffer) (found : Option Buffer) : Type 0 where
   pub level : buffer.level ≡ b.level
   pub copy : is_some b.copy ≡ true → buffer.copy ≡ b.copy
 
--- a change of a buffer that leaves that
+-- A change of a buffer that leaves that.
 pub record LeavesPin (b after : Buffer) : Type 0 where
   pub pinned : after.is_pinned ≡ true
   pub level : after.level ≡ b.level
@@ -52,7 +52,7 @@ module _ (held : List Buffer) (page : ℕ) (b : Buffer) (found : buffer_of held 
     go None none is = absurd (cc)
     go (Some x) same is = let equal : x ≡ b = cc in subst (λ y. y.page ≡ page) equal is
 
-  -- a page of which the buffer is not so is another one
+  -- A page of which the buffer is not so is another one.
   pub other-page : (q : Buffer → Bool) (other : ℕ) → q b ≡ false → option_map_or q (buffer_of held other) false ≡ true → (other == page) ≡ false
   other-page q other not_so so = go (other == page) refl where
     go : (t : Bool) → (other == page) ≡ t → t ≡ false

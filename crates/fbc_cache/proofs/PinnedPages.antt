@@ -12,7 +12,8 @@ use Rattle.fbc_buffers.specs.declared.buffers.Buffer.{Buffer}
 use Rattle.fbc_buffers.specs.Holding.{buffer_of, granted_buffer, is_waiting, waiting_buffer}
 use Rattle.fbc_cache.specs.Cache.{CacheState, IsBuffer, IsCache, level_in}
 use Rattle.fbc_cache.specs.Takes.{after_due, after_lock, after_look, after_lowering, after_take, after_withdrawal, after_write}
-use Rattle.fbc_cache.specs.Wants.{is_due, is_idle, is_low, is_lowering_due, is_page_series, is_part}
+use Rattle.fbc_cache.specs.Wants.{is_due, is_idle, is_lowering_due, is_page_series, is_part}
+use Rattle.fbc_precedence.specs.Search.{is_blocked}
 use Rattle.fbc_cache.proofs.Headers.{is_buffer-found}
 use Rattle.fbc_cache.proofs.PinnedBuffers.{IsPinnedAs, filtered, given-up, granted, lowered, not-idle, other-page, pushed, read, same, written}
 
@@ -50,7 +51,7 @@ module _ (c : CacheState) (page : ℕ) (b : Buffer) (is : IsCache c) (found : bu
   after-lowering : (other : ℕ) (level : Level) → is_lowering_due c other level ≡ true → IsPinnedAs b (buffer_of (after_lowering c other level).held page)
   after-lowering other level due = go level where
     idle : option_map_or is_idle (buffer_of c.held other) false ≡ true
-    idle = first (option_map_or is_idle (buffer_of c.held other) false) (is_low c.pairs other) _ (is_part level (level_in c.held other)) due
+    idle = first (option_map_or is_idle (buffer_of c.held other) false) (is_blocked c.pairs other) _ (is_part level (level_in c.held other)) due
 
     differs : (other == page) ≡ false
     differs = other-page c.held page b found pinned is_idle other (not-idle c.held page b found pinned) idle
@@ -85,7 +86,7 @@ module _ (c : CacheState) (page : ℕ) (b : Buffer) (is : IsCache c) (found : bu
     go true due = after-due asked answer shown due
     go false _ = stays
 
--- a pinned page has a buffer
+-- A pinned page has a buffer.
 pub record HasPin (found : Option Buffer) : Type 0 where
   pub buffer : Buffer
   pub is : found ≡ Some buffer

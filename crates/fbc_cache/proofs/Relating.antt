@@ -8,14 +8,14 @@ use Rattle.fbc_levels.specs.declared.levels.Level.TheVariants.{Ex}
 use Rattle.fbc_precedence.specs.Pages.{has, pages_of}
 use Rattle.fbc_precedence.specs.declared.related.Related.{Related}
 use Rattle.fbc_precedence.specs.declared.related.Related.TheVariants as related
-use Rattle.fbc_precedence.specs.Precedence.{AreUnrelated, Precedence, StandsBefore, after_relate, pair_of}
+use Rattle.fbc_precedence.specs.Precedence.{AreUnrelated, Precedence, ComesBefore, after_relate, pair_of}
 use Rattle.fbc_buffers.specs.declared.buffers.Buffer.{Buffer}
 use Rattle.fbc_cache.specs.Cache.{CacheState, IsHeldPair, is_dirty_in, level_in}
 use Rattle.fbc_cache.specs.Edits.{Relates, RelatesTo, is_write_first, needs_pair}
 use Rattle.fbc_cache.proofs.HeldPairs.{ArePairs}
 use Rattle.fbc_cache.proofs.Lists.{all-append, all-implied}
 
--- the pages that have buffers
+-- The pages that have buffers.
 abbrev pub pages_held : List Buffer → List ℕ
 pages_held held = map (λ (b : Buffer). b.page) held
 
@@ -31,21 +31,21 @@ pub length-pages : (held : List Buffer) → length (pages_held held) ≡ length 
 length-pages [] = refl
 length-pages (b ∷ bs) = ap (λ n. suc n) (length-pages bs)
 
--- the page is held in EX and the high one is dirty, and is another
+-- The page is held in EX and the high one is dirty, and is another.
 pub new-pair : (held : List Buffer) (page high : ℕ) → level_in held page ≡ Ex → needs_pair held page high ≡ true → IsHeldPair held (pair_of high page)
 new-pair held page high exclusive needed = record { high = grind (arith, needed); low = exclusive }
 
 pub pairs-push : (held : List Buffer) (pairs : List Edge) (pair : Edge) → ArePairs held pairs → IsHeldPair held pair → ArePairs held (pairs ++ pair ∷ [])
 pairs-push held pairs pair all is = all-append (IsHeldPair held) pairs (pair ∷ []) all (is, tt)
 
--- both pages of each pair have buffers
+-- Both pages of each pair have buffers.
 pub pairs-has : (held : List Buffer) (pairs : List Edge) → ArePairs held pairs → All (λ pair. (has (pages_held held) pair.high ≡ true) × (has (pages_held held) pair.low ≡ true)) pairs
 pairs-has held pairs all =
     All-from_recursion (λ (pair : Edge). (has (pages_held held) pair.high ≡ true) × (has (pages_held held) pair.low ≡ true)) pairs
     (all-implied (IsHeldPair held) (λ pair. (has (pages_held held) pair.high ≡ true) × (has (pages_held held) pair.low ≡ true)) (λ pair is. (dirty-has held pair.high is.high, level-has held pair.low is.low)) pairs all)
 
 module _ (held : List Buffer) (page : ℕ) (start : List Edge) (highs : List ℕ) where
-  -- what the pages from this place on come to, all come to
+  -- What the pages from this place on come to, all come to.
   abbrev pub Rest : List Edge → List ℕ → Type 0
   Rest pairs rest = (after : List Edge) (first : Option ℕ) → Relates held page pairs rest after first → Relates held page start highs after first
 
@@ -60,7 +60,7 @@ module _ (held : List Buffer) (page : ℕ) (start : List Edge) (highs : List ℕ
     pub rest-first : needs_pair held page high ≡ true → (after : List Edge) → RelatesTo pairs high page after true → Relates held page start highs after (Some high)
     rest-first needed after is = before after (Some high) (inr (needed, inr (inr (is.0, is.1, refl))))
 
--- what stands after an answer
+-- What stands after an answer.
 module _ (held : List Buffer) (order : Precedence) (high low : ℕ) (answer : Related) where
   abbrev told : Precedence
   told = after_relate order high low answer
@@ -79,12 +79,12 @@ module _ (held : List Buffer) (order : Precedence) (high low : ℕ) (answer : Re
     step related.Already = all
     step (related.WriteFirst page) = all
 
--- what an answer says of the two pages
-pub answer-relates : (order : Precedence) (high low : ℕ) (answer : Related) → ((answer ≡ related.Already) ↔ StandsBefore order.pairs high low) → ((answer ≡ related.WriteFirst low) ↔ StandsBefore order.pairs low high) → ((answer ≡ related.Recorded) ↔ AreUnrelated order.pairs high low) → RelatesTo order.pairs high low (after_relate order high low answer).pairs (is_write_first answer)
+-- What an answer says of the two pages.
+pub answer-relates : (order : Precedence) (high low : ℕ) (answer : Related) → ((answer ≡ related.Already) ↔ ComesBefore order.pairs high low) → ((answer ≡ related.WriteFirst low) ↔ ComesBefore order.pairs low high) → ((answer ≡ related.Recorded) ↔ AreUnrelated order.pairs high low) → RelatesTo order.pairs high low (after_relate order high low answer).pairs (is_write_first answer)
 answer-relates order high low related.Recorded already write_first recorded = inl (recorded.0 refl, refl)
 answer-relates order high low related.Already already write_first recorded = inr (already.0 refl, refl)
 answer-relates order high low (related.WriteFirst page) already write_first recorded = (step (page == low) refl, refl) where
-  step : (t : Bool) → (page == low) ≡ t → StandsBefore order.pairs low high
+  step : (t : Bool) → (page == low) ≡ t → ComesBefore order.pairs low high
   step true same =
       let page-is : page ≡ low = grind (arith, nat_tests, same) in
       write_first.0 (ap (λ p. related.WriteFirst p) page-is)
@@ -95,11 +95,11 @@ answer-relates order high low (related.WriteFirst page) already write_first reco
     not_first : related.WriteFirst page ≡ related.WriteFirst low → ⊥
     not_first is = grind (arith, nat_tests, other, is)
 
--- no more pages stand in such pairs than have buffers
+-- No more pages stand in such pairs than have buffers.
 pub few-pages : (held : List Buffer) (pairs : List Edge) → ((pairs : List Edge) (pages : List ℕ) → All (λ pair. (has pages pair.high ≡ true) × (has pages pair.low ≡ true)) pairs → length (pages_of pairs) ≤ length pages) → ArePairs held pairs → length (pages_of pairs) ≤ length held
 few-pages held pairs law all = omega (arith, law pairs (pages_held held) (pairs-has held pairs all), length-pages held)
 
--- what is known in a turn: the cache but for its pairs, and what the pages that are left come to
+-- What is known in a turn: the cache but for its pairs, and what the pages that are left come to.
 pub record IsRelating (start now : CacheState) (page : ℕ) (highs rest : List ℕ) : Type 0 where
   pub same : now ≡ record start { pairs = now.pairs }
   pub comes_to : Rest start.held page start.pairs highs now.pairs rest

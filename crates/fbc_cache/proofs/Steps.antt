@@ -6,16 +6,17 @@ use Rattle.std.specs.Option.{option_map_or}
 use Rattle.fbc_kinds.specs.declared.pages.Page.{Page}
 use Rattle.fbc_kinds.specs.Edits.{IsWithinLimits}
 use Rattle.fbc_levels.specs.declared.levels.Level.{Level}
-use Rattle.fbc_levels.specs.Levels.{is_free}
+use Rattle.fbc_levels.specs.Levels.{is_free, is_page_level}
 use Rattle.fbc_precedence.specs.Precedence.{is_without}
 use Rattle.fbc_buffers.specs.declared.buffers.Buffer.{Buffer}
 use Rattle.fbc_buffers.specs.Holding.{AreApart, IsHolding, buffer_of, granted_buffer, granted_wait, is_waiting, touched, waiting_buffer, with_blocking, with_copy, with_dirt, with_level, with_pin, without}
-use Rattle.fbc_cache.specs.Cache.{CacheState, IsCache, is_granted_in, is_page_level, level_in}
-use Rattle.fbc_cache.specs.Wants.{is_idle, is_lock_due, is_low, is_lowering_due, is_part, is_unread}
+use Rattle.fbc_cache.specs.Cache.{CacheState, IsCache, is_granted_in, level_in}
+use Rattle.fbc_cache.specs.Wants.{is_idle, is_lock_due, is_lowering_due, is_part, is_unread}
+use Rattle.fbc_precedence.specs.Search.{is_blocked}
 use Rattle.fbc_cache.proofs.Buffers.{granted-is, waiting-is}
 use Rattle.fbc_cache.proofs.Changes.{Holds, cache-holds, holds-cache, holds-granted, holds-level, holds-mark, holds-pin, holds-push, holds-read, holds-touched, holds-withdrawn, holds-without, holds-written, idle-clean}
 
--- what is true where a lock is due
+-- What is true where a lock is due.
 record LockIsDue (c : CacheState) (page : ℕ) (level : Level) : Type 0 where
   absent : buffer_of c.held page ≡ None
   room : length c.held == c.room ≡ false
@@ -47,16 +48,16 @@ cache-queued c page level due is =
     let d : LockIsDue c page level = lock-due c page level due in
     cache-holds _ (holds-push c.shape c.held c.pairs (holds-cache c is) (waiting_buffer page level) d.absent d.alone (waiting-is c.shape page level d.fits))
 
--- what is true where a lowering is due
+-- What is true where a lowering is due.
 record LoweringIsDue (c : CacheState) (page : ℕ) (level : Level) : Type 0 where
   idle : option_map_or is_idle (buffer_of c.held page) false ≡ true
-  low : is_low c.pairs page ≡ false
+  low : is_blocked c.pairs page ≡ false
   fits : (is_free level || is_page_level level) ≡ true
 
 lowering-due : (c : CacheState) (page : ℕ) (level : Level) → is_lowering_due c page level ≡ true → LoweringIsDue c page level
 lowering-due c page level due =
-    let three : (option_map_or is_idle (buffer_of c.held page) false ≡ true) × (is_low c.pairs page ≡ false) × ((is_free level || is_page_level level) ≡ true) =
-    parts (option_map_or is_idle (buffer_of c.held page) false) (is_low c.pairs page) (is_free level || is_page_level level) (is_part level (level_in c.held page)) due in
+    let three : (option_map_or is_idle (buffer_of c.held page) false ≡ true) × (is_blocked c.pairs page ≡ false) × ((is_free level || is_page_level level) ≡ true) =
+    parts (option_map_or is_idle (buffer_of c.held page) false) (is_blocked c.pairs page) (is_free level || is_page_level level) (is_part level (level_in c.held page)) due in
     record { idle = three.0; low = three.1; fits = three.2 } where
       parts : (s t u v : Bool) → (s && not t && u && v) ≡ true → (s ≡ true) × (t ≡ false) × (u ≡ true)
       parts s t u v all = grind (arith, all)
@@ -73,7 +74,7 @@ cache-lowered c page level held due apart is =
     let lower : Holds c.shape (map (with_level page level) c.held) c.pairs = holds-level c.shape c.held c.pairs (holds-cache c is) page level apart d.idle d.low fits in
     cache-holds _ (holds-mark c.shape (map (with_level page level) c.held) c.pairs lower page false)
 
--- other pointer pages are remembered before
+-- Other pointer pages are remembered before.
 pub cache-read : (before c : CacheState) (pointers : List (List ℕ)) → c ≡ record before { pointers = pointers } → (page : ℕ) (shown : Option Page) → option_map_or is_unread (buffer_of before.held page) false ≡ true → IfSome shown (IsWithinLimits before.shape) → AreApart before.held → IsCache c → IsCache (record c { held = map (with_copy page shown) c.held })
 cache-read before c pointers same page shown unread limits apart is =
     let held : c.held ≡ before.held = ap (λ (s : CacheState). s.held) same in

@@ -11,7 +11,7 @@ use Rattle.fbc_cache.specs.declared.needs.Need.{Need}
 use Rattle.fbc_cache.specs.Cache.{CacheState}
 use Rattle.fbc_cache.specs.Wants.{MayWant}
 
--- where a test finds none, no buffer passes it
+-- Where a test finds none, no buffer passes it.
 pub any-none : (p : Buffer → Bool) (held : List Buffer) → find p held ≡ None → list_any p held ≡ false
 any-none p [] none = refl
 any-none p (b ∷ bs) none = grind (arith, none, any-none p bs)
@@ -24,7 +24,7 @@ found-fails p q (a ∷ bs) b none is = go (p a) refl none (q a) refl is (found-f
   go false fails none' true _ is' later = let same : a ≡ b = cc in subst (λ x. p x ≡ false) same fails
   go false fails none' false _ is' later = later none' is'
 
--- no page is waited for, where one that has no buffer may be wanted
+-- No page is waited for, where one that has no buffer may be wanted.
 pub none-waits : (c : CacheState) (need : Need) → AreApart c.held → MayWant c need → buffer_of c.held need.page ≡ None → find is_waiting c.held ≡ None
 none-waits c need apart may absent = go (find is_waiting c.held) refl may.alone where
   go : (found : Option Buffer) → find is_waiting c.held ≡ found → option_map_or (λ (b : Buffer). b.page == need.page) found true ≡ true → found ≡ None
@@ -34,7 +34,7 @@ none-waits c need apart may absent = go (find is_waiting c.held) refl may.alone 
       let there : buffer_of c.held need.page ≡ Some b = subst (λ page. buffer_of c.held page ≡ Some b) same (buffer_of-found is_waiting c.held b apart is).0 in
       absurd (cc)
 
--- what is known of the victim's buffer
+-- What is known of the victim's buffer.
 pub record IsVictim (held : List Buffer) (page : ℕ) : Type 0 where
   pub buffer : Buffer
   pub found : buffer_of held page ≡ Some buffer
@@ -55,12 +55,12 @@ is_victim held page apart none is = go (find is_loose held) refl is where
         granted = found-fails is_waiting is_loose held b none found;
       }
 
--- no more are pinned than there are
+-- No more are pinned than there are.
 pub pinned-few : (held : List Buffer) → length (filter is_pinned held) ≤ length held
 pinned-few [] = omega (arith)
 pinned-few (b ∷ bs) = grind (arith, common_steps, pinned-few bs)
 
--- a page gives way exactly where fewer are pinned than there are
+-- A page gives way exactly where fewer are pinned than there are.
 pub victim-loose : (held : List Buffer) (page : ℕ) → victim_of held ≡ Some page → length (filter is_pinned held) < length held
 victim-loose [] page is = absurd (cc)
 victim-loose (b ∷ bs) page is = go b.is_pinned refl is (victim-loose bs page) where

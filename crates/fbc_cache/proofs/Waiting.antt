@@ -5,11 +5,11 @@ use Rattle.std.specs.List.{filter, list_any}
 use Rattle.fbc_buffers.specs.declared.buffers.Buffer.{Buffer}
 use Rattle.fbc_buffers.specs.Holding.{granted_wait, is_of, is_waiting, touched, without}
 
--- how many are waited for
+-- How many are waited for.
 abbrev pub waits : List Buffer → ℕ
 waits held = length (filter is_waiting held)
 
--- a change that waits for nothing else
+-- A change that waits for nothing else.
 abbrev pub KeepsWait : (Buffer → Buffer) → Type 0
 KeepsWait f = (b : Buffer) → (f b).wanted ≡ b.wanted
 
@@ -25,7 +25,7 @@ pub waits-filter : (p : Buffer → Bool) (held : List Buffer) → waits (filter 
 waits-filter p [] = omega (arith)
 waits-filter p (b ∷ bs) = grind (arith, common_steps, waits-filter p bs)
 
--- two parts
+-- Two parts.
 waits-parts : (page : ℕ) (held : List Buffer) → waits (without page held) + waits (filter (is_of page) held) ≡ waits held
 waits-parts page [] = refl
 waits-parts page (b ∷ bs) = grind (arith, common_steps, waits-parts page bs)
@@ -33,12 +33,12 @@ waits-parts page (b ∷ bs) = grind (arith, common_steps, waits-parts page bs)
 pub waits-touched : (page : ℕ) (held : List Buffer) → waits (touched page held) ≡ waits held
 waits-touched page held = waits-append (without page held) (filter (is_of page) held) ∙ waits-parts page held
 
--- none after a grant
+-- None after a grant.
 pub waits-granted : (held : List Buffer) → waits (map granted_wait held) ≡ 0
 waits-granted [] = refl
 waits-granted (b ∷ bs) = waits-granted bs
 
--- none where none is found
+-- None where none is found.
 pub waits-none : (held : List Buffer) → list_any is_waiting held ≡ false → waits held ≡ 0
 waits-none [] none = refl
 waits-none (b ∷ bs) none = grind (arith, common_steps, none, waits-none bs)

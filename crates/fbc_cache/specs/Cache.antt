@@ -10,6 +10,7 @@ use Rattle.fbc_levels.specs.declared.levels.Level.{Level}
 use Rattle.fbc_levels.specs.declared.levels.Level.TheVariants.{Ex, Free, Pr}
 use Rattle.fbc_buffers.specs.declared.buffers.Buffer.{Buffer}
 use Rattle.fbc_buffers.specs.Holding.{buffer_of, is_waiting}
+use Rattle.fbc_levels.specs.Levels.{is_page_level}
 
 -- The shape of the file; how many buffers there are, and those in use, the one whose last use is longest ago first; the pairs of
 -- pages of which the first is to be written before the second; and the pointer pages of each relation as the header last showed them.
@@ -36,12 +37,6 @@ is_pinned_in held page = option_map_or (λ (b : Buffer). b.is_pinned) (buffer_of
 -- Whether a page is held: its grant was learnt.
 abbrev pub is_granted_in : List Buffer → ℕ → Bool
 is_granted_in held page = option_map_or (λ (b : Buffer). is_none b.wanted) (buffer_of held page) false
-
--- Pages are used in two levels.
-abbrev pub is_page_level : Level → Bool
-is_page_level Pr = true
-is_page_level Ex = true
-is_page_level _ = false
 
 -- A page that is waited for has no level yet.
 abbrev pub HasLevel : Level → Option Level → Type 0

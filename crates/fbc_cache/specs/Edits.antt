@@ -6,7 +6,7 @@ use Rattle.fbc_kinds.specs.declared.pages.Page.{Page}
 use Rattle.fbc_levels.specs.declared.levels.Level.TheVariants.{Ex}
 use Rattle.fbc_precedence.specs.declared.related.Related.{Related}
 use Rattle.fbc_precedence.specs.declared.related.Related.TheVariants as related
-use Rattle.fbc_precedence.specs.Precedence.{AreUnrelated, IsBlocked, StandsBefore, pair_of}
+use Rattle.fbc_precedence.specs.Precedence.{AreUnrelated, IsBlocked, ComesBefore, pair_of}
 use Rattle.fbc_world.specs.PageCell.{edited}
 use Rattle.fbc_buffers.specs.declared.buffers.Buffer.{Buffer}
 use Rattle.fbc_buffers.specs.Holding.{with_copy, with_dirt}
@@ -30,9 +30,9 @@ is_write_first _ = false
 
 -- What the relating of one high page comes to: the pairs that stand afterwards, and whether the edited page is to be written before it.
 abbrev pub RelatesTo : List Edge → ℕ → ℕ → List Edge → Bool → Type 0
-RelatesTo pairs high page after true = StandsBefore pairs page high × (after ≡ pairs)
+RelatesTo pairs high page after true = ComesBefore pairs page high × (after ≡ pairs)
 RelatesTo pairs high page after false =
-    (AreUnrelated pairs high page × (after ≡ pairs ++ pair_of high page ∷ [])) ⊎ (StandsBefore pairs high page × (after ≡ pairs))
+    (AreUnrelated pairs high page × (after ≡ pairs ++ pair_of high page ∷ [])) ⊎ (ComesBefore pairs high page × (after ≡ pairs))
 
 -- The high pages are related to the edited one in their order, up to the first that it is to be written before. The pairs that stand
 -- afterwards, and that page, if there is one.
@@ -42,8 +42,8 @@ Relates held page pairs (high ∷ highs) after first =
     ((needs_pair held page high ≡ false) × Relates held page pairs highs after first)
     ⊎ ((needs_pair held page high ≡ true)
     × ((AreUnrelated pairs high page × Relates held page (pairs ++ pair_of high page ∷ []) highs after first)
-    ⊎ ((StandsBefore pairs high page × Relates held page pairs highs after first)
-    ⊎ (StandsBefore pairs page high × (after ≡ pairs) × (first ≡ Some high)))))
+    ⊎ ((ComesBefore pairs high page × Relates held page pairs highs after first)
+    ⊎ (ComesBefore pairs page high × (after ≡ pairs) × (first ≡ Some high)))))
 
 -- With these pairs, and with the edit.
 abbrev pub with_edit : CacheState → ℕ → Option Page → CacheState
@@ -72,7 +72,7 @@ pub record Edits (before after : CacheState) (page : ℕ) (edit : Edit) (highs :
 -- The page is dirty, and no dirty page is to be written before it.
 pub record IsNextDirty (c : CacheState) (page : ℕ) : Type 0 where
   pub dirty : is_dirty_in c.held page ≡ true
-  pub next : (other : ℕ) → is_dirty_in c.held other ≡ true → ¬ StandsBefore c.pairs other page
+  pub next : (other : ℕ) → is_dirty_in c.held other ≡ true → ¬ ComesBefore c.pairs other page
 
 -- The page of this buffer is dirty, and no page stands before it.
 pub record IsFree (pairs : List Edge) (b : Buffer) : Type 0 where

@@ -6,7 +6,7 @@ use Rattle.fbc_precedence.specs.Precedence.{IsBlocked, IsNextToWrite}
 use Rattle.fbc_world.specs.declared.asks.Ask.{Ask}
 use Rattle.fbc_world.specs.declared.asks.Ask.TheVariants as ask
 use Rattle.fbc_world.specs.declared.asks.Cause.{Cause}
-use Rattle.fbc_world.specs.Holdings.{page_resource}
+use Rattle.fbc_levels.specs.Resources.{page_resource}
 use Rattle.fbc_cache.specs.Cache.{CacheState, is_dirty_in}
 
 -- The page is to be written, or some page before it.

@@ -4,22 +4,22 @@ use Rattle.std.specs.List.{filter, find, list_any}
 use Rattle.std.specs.Option.{option_map_or}
 use Rattle.fbc_levels.specs.declared.levels.Level.{Level}
 use Rattle.fbc_levels.specs.declared.levels.Level.TheVariants.{Ex, Free, Pr}
-use Rattle.fbc_levels.specs.Levels.{is_free}
+use Rattle.fbc_levels.specs.Levels.{is_free, is_page_level}
 use Rattle.fbc_levels.specs.declared.resources.Resource.{Resource}
 use Rattle.fbc_levels.specs.declared.resources.Series.TheVariants as series
-use Rattle.fbc_levels.specs.Resources.{is_same_series}
+use Rattle.fbc_levels.specs.Resources.{is_same_series, page_resource}
 use Rattle.fbc_kinds.specs.declared.edges.Edge.{Edge}
 use Rattle.fbc_world.specs.declared.asks.Ask.{Ask}
 use Rattle.fbc_world.specs.declared.asks.Ask.TheVariants as ask
 use Rattle.fbc_world.specs.declared.asks.Cause.TheVariants.{Evict}
-use Rattle.fbc_world.specs.Holdings.{page_resource}
 use Rattle.fbc_buffers.specs.declared.buffers.Buffer.{Buffer}
 use Rattle.fbc_buffers.specs.Holding.{buffer_of, is_pinned, is_waiting, victim_of}
 use Rattle.fbc_cache.specs.declared.needs.Need.{Need}
 use Rattle.fbc_cache.specs.declared.needs.Want.{Want}
 use Rattle.fbc_cache.specs.declared.needs.Want.TheVariants.{Here, Must}
-use Rattle.fbc_cache.specs.Cache.{CacheState, is_dirty_in, is_granted_in, is_page_level, is_pinned_in, level_in}
+use Rattle.fbc_cache.specs.Cache.{CacheState, is_dirty_in, is_granted_in, is_pinned_in, level_in}
 use Rattle.fbc_cache.specs.Giving.{GivesUp}
+use Rattle.fbc_precedence.specs.Search.{is_blocked}
 
 -- Whether a page that is held in the first level may be used in the second.
 abbrev pub suffices : Level → Level → Bool
@@ -92,10 +92,6 @@ is_lock_due c page level =
 abbrev pub is_idle : Buffer → Bool
 is_idle b = is_none b.wanted && not b.is_dirty && not b.is_pinned
 
--- Whether some page is to be written before it.
-abbrev pub is_low : List Edge → ℕ → Bool
-is_low pairs page = list_any (λ (pair : Edge). pair.low == page) pairs
-
 -- Whether a page that is held in the second level is held in the first one too.
 abbrev pub is_part : Level → Level → Bool
 is_part level held = is_free level || suffices held level
@@ -103,7 +99,7 @@ is_part level held = is_free level || suffices held level
 -- A page may be lowered to a part of its level where it is held, clean and not pinned, and no page is to be written before it.
 abbrev pub is_lowering_due : CacheState → ℕ → Level → Bool
 is_lowering_due c page level =
-    option_map_or is_idle (buffer_of c.held page) false && not (is_low c.pairs page) && (is_free level || is_page_level level) && is_part level (level_in c.held page)
+    option_map_or is_idle (buffer_of c.held page) false && not (is_blocked c.pairs page) && (is_free level || is_page_level level) && is_part level (level_in c.held page)
 
 -- A page may be given up, or held in this level: its grant was learnt, it is not in use, and the level is a part of its own.
 pub record MayGiveUp (c : CacheState) (page : ℕ) (level : Level) : Type 0 where
@@ -118,7 +114,7 @@ is_unread b = is_none b.wanted && is_none b.copy
 
 -- A page is written where it is dirty and no page is to be written before it.
 abbrev pub is_write_due : CacheState → ℕ → Bool
-is_write_due c page = is_dirty_in c.held page && not (is_low c.pairs page)
+is_write_due c page = is_dirty_in c.held page && not (is_blocked c.pairs page)
 
 -- Whether a step of the cache's own is due: it keeps what a cache is. What is asked of no page is no matter of the cache, but
 -- that nothing else is asked while a page is waited for.

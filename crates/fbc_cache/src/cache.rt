@@ -3,7 +3,7 @@
 ghost use Rattle.std.specs.Prelude.{◌≡◌, ◌↔◌, [], IsTrue, IfOk};
 ghost use Rattle.std.specs.Option.{option_copied};
 ghost use Rattle.fbc_buffers.specs.Holding.{IsHolding, victim_of};
-ghost use Rattle.fbc_kinds.specs.HeaderSpelling.{IsShape};
+ghost use Rattle.fbc_kinds.specs.HeaderSpelling.{IsFileShape};
 ghost use Rattle.fbc_cache.specs.Cache.{CacheState, IsCache, copy_in, is_pinned_in};
 ghost use Rattle.fbc_cache.specs.Use.{after_mark, after_pin, after_unpin};
 
@@ -26,7 +26,7 @@ pub struct Cache {
 }
 
 impl Model for Cache {
-    ghost use Rattle.fbc_kinds.specs.HeaderSpelling.{IsShape};
+    ghost use Rattle.fbc_kinds.specs.HeaderSpelling.{IsFileShape};
     ghost use Rattle.fbc_cache.specs.Cache.{CacheState, IsCache};
     ghost use Rattle.std.specs.Prelude.{◌≡◌};
 
@@ -34,7 +34,7 @@ impl Model for Cache {
 
     ghost view = { λ c. record { shape = c.shape; room = c.buffers.room; held = c.buffers.held; pairs = c.graph.pairs; pointers = c.remembered } };
 
-    ghost invariant = { λ c. IsShape c.shape × (c.graph.buffers ≡ c.buffers.room) × IsCache (record { shape = c.shape; room = c.buffers.room; held = c.buffers.held; pairs = c.graph.pairs; pointers = c.remembered }) };
+    ghost invariant = { λ c. IsFileShape c.shape × (c.graph.buffers ≡ c.buffers.room) × IsCache (record { shape = c.shape; room = c.buffers.room; held = c.buffers.held; pairs = c.graph.pairs; pointers = c.remembered }) };
 }
 
 impl Cache {
@@ -44,7 +44,7 @@ impl Cache {
     ///
     /// Want of memory, and more than 512 buffers.
     pub fn new(alloc: Global, buffers: u32, shape: Shape) -> Result<Cache, AllocError>
-        requires shape { IsShape shape }
+        requires shape { IsFileShape shape }
         ensures { IfOk result (λ cache. cache ≡ record { shape = shape; room = buffers; held = []; pairs = []; pointers = [] }) }
     {
         Ok(Cache {

@@ -4,8 +4,9 @@ ghost use Rattle.std.specs.Prelude.{◌≡◌, false};
 ghost use Rattle.std.specs.List.{list_any};
 ghost use Rattle.std.specs.Option.{option_map_or};
 ghost use Rattle.fbc_buffers.specs.Holding.{buffer_of, is_waiting};
-ghost use Rattle.fbc_cache.specs.Cache.{is_page_level};
-ghost use Rattle.fbc_cache.specs.Wants.{is_due, is_idle, is_lock_due, is_low, is_lowering_due, is_page_series, is_part, is_unread, is_write_due};
+ghost use Rattle.fbc_levels.specs.Levels.{is_page_level};
+ghost use Rattle.fbc_cache.specs.Wants.{is_due, is_idle, is_lock_due, is_lowering_due, is_page_series, is_part, is_unread, is_write_due};
+ghost use Rattle.fbc_precedence.specs.Search.{is_blocked};
 
 use crate::cache::Cache;
 use crate::wants::suffices;
@@ -35,7 +36,7 @@ impl Cache {
                 !is_page(*resource) || self.is_lowering_due(resource.key, *level)
             }
             Ask::Read { page } => self.is_unread(*page),
-            Ask::Write { page, cause: _ } => self.is_dirty(*page) && !self.is_low(*page),
+            Ask::Write { page, cause: _ } => self.is_dirty(*page) && !self.is_blocked(*page),
             _ => true,
         }
     }
@@ -65,7 +66,7 @@ impl Cache {
         ensures { result ≡ is_lowering_due self.now page level }
     {
         self.is_idle(page)
-            && !self.is_low(page)
+            && !self.is_blocked(page)
             && (level == Level::Free || is_page_level(level))
             && is_part(level, self.level(page))
     }
@@ -91,8 +92,8 @@ impl Cache {
     }
 
     /// Whether some page is to be written before this one.
-    fn is_low(&self, page: u32) -> bool
-        ensures { result ≡ is_low self.now.pairs page }
+    fn is_blocked(&self, page: u32) -> bool
+        ensures { result ≡ is_blocked self.now.pairs page }
     {
         self.graph.blocked(page)
     }

@@ -6,7 +6,8 @@ ghost use Rattle.fbc_cache.specs.Cache.{is_pinned_in, level_in};
 ghost use Rattle.fbc_cache.specs.Edits.{MayEdit, page_after};
 
 use crate::cache::Cache;
-use fbc_kinds::{ApplyFault, Edit, apply};
+use fbc_apply::apply;
+use fbc_kinds::{ApplyFault, Edit};
 use fbc_levels::Level;
 use std::alloc::AllocError;
 

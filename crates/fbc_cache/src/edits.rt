@@ -9,7 +9,8 @@ ghost use Rattle.fbc_cache.specs.Cache.{is_pinned_in, level_in};
 ghost use Rattle.fbc_cache.specs.Edits.{Edits, Relates, RelatesTo, is_write_first, needs_pair, page_after, with_edit};
 
 use crate::cache::Cache;
-use fbc_kinds::{ApplyFault, Edit, Page, apply};
+use fbc_apply::{apply, copied};
+use fbc_kinds::{ApplyFault, Edit, Page};
 use fbc_precedence::{Related, pages_are_few};
 use std::alloc::AllocError;
 
@@ -63,7 +64,7 @@ impl Cache {
         ensures limits { IfOk result (IsWithinLimits self.now.shape) }
     {
         match self.page(page) {
-            Some(copy) => copy.copied(self.alloc),
+            Some(copy) => copied(self.alloc, copy),
             None => Ok(Page::Blank),
         }
     }

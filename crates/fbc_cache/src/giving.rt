@@ -6,8 +6,7 @@ ghost use Rattle.fbc_cache.specs.Giving.{GivesUp, IsUnsettled};
 ghost use Rattle.fbc_cache.specs.Wants.{MayGiveUp, is_due};
 
 use crate::cache::Cache;
-use crate::wants::page_resource;
-use fbc_levels::Level;
+use fbc_levels::{Level, Resource};
 use fbc_world::{Ask, Cause};
 
 impl Cache {
@@ -25,7 +24,7 @@ impl Cache {
             }
         } else {
             Ask::Lower {
-                resource: page_resource(page),
+                resource: Resource::page(page),
                 level,
             }
         }

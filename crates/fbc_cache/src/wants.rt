@@ -5,7 +5,6 @@ ghost use Rattle.std.specs.List.{filter, find};
 ghost use Rattle.std.specs.Option.{option_copied, option_map_or};
 ghost use Rattle.fbc_buffers.specs.declared.buffers.Buffer.{Buffer as ABuffer};
 ghost use Rattle.fbc_buffers.specs.Holding.{buffer_of, is_pinned, is_waiting};
-ghost use Rattle.fbc_world.specs.Holdings as spec;
 ghost use Rattle.fbc_cache.specs.declared.needs.Want.TheVariants as wants;
 ghost use Rattle.fbc_cache.specs.Wants.{IsDueWant, IsHere, MayWant, Wants, WantsBuffer, is_pinned_below, lock_for, suffices, want_held};
 
@@ -13,7 +12,7 @@ use crate::cache::Cache;
 use crate::due::is_page_level;
 use crate::needs::{Need, Want};
 use fbc_buffers::Buffer;
-use fbc_levels::{Level, Resource, Series};
+use fbc_levels::{Level, Resource};
 use fbc_world::{Ask, Cause};
 use std::alloc::AllocError;
 
@@ -114,22 +113,12 @@ impl Cache {
     }
 }
 
-/// The page as what is locked.
-pub(crate) fn page_resource(page: u32) -> Resource
-    ensures { result ≡ spec.page_resource page }
-{
-    Resource {
-        series: Series::Page,
-        key: page,
-    }
-}
-
 /// The lock of a page.
 fn lock_for(need: &Need) -> Ask
     ensures { result ≡ lock_for need.now }
 {
     Ask::Lock {
-        resource: page_resource(need.page),
+        resource: Resource::page(need.page),
         level: need.level,
         wait: need.wait,
         word: 0,
@@ -145,7 +134,7 @@ fn want_held(need: &Need, buffer: &Buffer) -> Want
     }
     if !suffices(buffer.level, need.level) {
         return Want::Must(Ask::Lower {
-            resource: page_resource(need.page),
+            resource: Resource::page(need.page),
             level: Level::Free,
         });
     }

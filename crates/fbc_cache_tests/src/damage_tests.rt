@@ -1,6 +1,8 @@
 //! Damage in pages that are read: every rule that the bytes of one page can break.
 
-use crate::fixtures::{HEADER, Part, Step, bytes_of, check, empty_cache, follow, need};
+use crate::caches::empty_cache;
+use crate::pages::{HEADER, Part, bytes_of, lay};
+use crate::wants::{Step, check, follow, need};
 use fbc_cache::CacheFault;
 use fbc_kinds::Rule;
 use fbc_levels::Level;
@@ -58,13 +60,24 @@ const OTHERS: &[Case] = &[
     (4, DATA, &[(1023, &[1])], Rule::Rest),
 ];
 
+/// Pages that break no rule.
+const WHOLE: &[(u32, &'static [Part])] = &[
+    (0, HEADER),
+    (1, INVENTORY),
+    (2, TIP),
+    (3, POINTER),
+    (4, DATA),
+    (5, &[]),
+];
+
 #[test]
 fn damage_names_the_page_and_the_first_rule(rt: HostRuntime) -> Result<(), CacheFault> {
     for cases in [HEADS, HEADERS, OTHERS] {
         for (page, parts, changes, rule) in cases {
             let mut cache = empty_cache(&rt, rt.alloc(), 3)?;
             let wanted = need(*page, Level::Pr);
-            let bytes = bytes_of(parts, changes);
+            let mut bytes = bytes_of(parts);
+            lay(&mut bytes, changes);
             check(
                 &rt,
                 &mut cache,
@@ -90,18 +103,10 @@ fn damage_names_the_page_and_the_first_rule(rt: HostRuntime) -> Result<(), Cache
 #[test]
 fn pages_that_break_no_rule_come_into_use(rt: HostRuntime) -> Result<(), CacheFault> {
     let mut cache = empty_cache(&rt, rt.alloc(), 6)?;
-    let cases: [(u32, &[Part]); 6] = [
-        (0, HEADER),
-        (1, INVENTORY),
-        (2, TIP),
-        (3, POINTER),
-        (4, DATA),
-        (5, &[]),
-    ];
-    for (page, parts) in cases {
-        let steps = [Step::Lock(page, Level::Pr), Step::Read(page), Step::Use];
-        let bytes = bytes_of(parts, &[]);
-        check(&rt, &mut cache, need(page, Level::Pr), &bytes, &steps)?;
+    for (page, parts) in WHOLE {
+        let steps = [Step::Lock(*page, Level::Pr), Step::Read(*page), Step::Use];
+        let bytes = bytes_of(parts);
+        check(&rt, &mut cache, need(*page, Level::Pr), &bytes, &steps)?;
     }
     for (page, kind) in [(0, 1), (1, 2), (2, 3), (3, 4), (4, 5), (5, 0)] {
         assert_eq!(rt; cache.place(page).kind, kind);

@@ -1,6 +1,7 @@
 //! The order in which dirty pages are written.
 
-use crate::fixtures::{Step, check, empty_cache, fresh, need};
+use crate::caches::empty_cache;
+use crate::wants::{Step, check, fresh, need};
 use fbc_cache::{Cache, CacheFault, Edited};
 use fbc_kinds::Edit;
 use fbc_levels::Level;
@@ -24,6 +25,15 @@ fn format(
     Ok(cache.edit(page, edit, highs)?)
 }
 
+/// Pages that are formatted, their sequences, the pages that are to be written before them, and what that comes to.
+const FORMATS: &[(u32, u32, &'static [u32], Edited)] = &[
+    (10, 1, &[11, 12], Edited::Done),
+    (11, 1, &[10, 11], Edited::Done),
+    (12, 1, &[11], Edited::Done),
+    (12, 2, &[10], Edited::Done),
+    (10, 2, &[12], Edited::WriteFirst { page: 10, high: 12 }),
+];
+
 /// Formats pages 10, 11 and 12, which are pinned and held in EX, so that 10 is to be written before 11, and 11 before 12.
 fn dirty_pages(rt: &impl Abort, cache: &mut Cache) -> Result<(), CacheFault> {
     for page in 10..13 {
@@ -31,15 +41,8 @@ fn dirty_pages(rt: &impl Abort, cache: &mut Cache) -> Result<(), CacheFault> {
         check(rt, cache, fresh(page), &[0; 1024], &steps)?;
         cache.pin(page);
     }
-    let edits: [(u32, u32, &[u32], Edited); 5] = [
-        (10, 1, &[11, 12], Edited::Done),
-        (11, 1, &[10, 11], Edited::Done),
-        (12, 1, &[11], Edited::Done),
-        (12, 2, &[10], Edited::Done),
-        (10, 2, &[12], Edited::WriteFirst { page: 10, high: 12 }),
-    ];
-    for (page, sequence, highs, edited) in edits {
-        assert_eq!(rt; format(rt, cache, page, sequence, highs)?, edited);
+    for (page, sequence, highs, edited) in FORMATS {
+        assert_eq!(rt; format(rt, cache, *page, *sequence, highs)?, *edited);
     }
     assert_eq!(rt;
         (cache.place(10).sequence, cache.place(12).sequence),

@@ -1,6 +1,8 @@
 //! How pages come into use, and which of them gives way.
 
-use crate::fixtures::{HEADER, Step, bytes_of, check, empty_cache, fresh, need};
+use crate::caches::empty_cache;
+use crate::pages::{HEADER, bytes_of};
+use crate::wants::{Step, check, fresh, need};
 use fbc_cache::{CacheFault, Need};
 use fbc_levels::{Level, Resource, Series};
 use fbc_world::{Answer, Ask};
@@ -74,7 +76,7 @@ fn one_page_is_waited_for_at_most(rt: HostRuntime) -> Result<(), CacheFault> {
 #[test]
 fn pointer_pages_are_remembered_without_the_header(rt: HostRuntime) -> Result<(), CacheFault> {
     let mut cache = empty_cache(&rt, rt.alloc(), 3)?;
-    let bytes = bytes_of(HEADER, &[]);
+    let bytes = bytes_of(HEADER);
     let steps = [Step::Lock(0, Level::Pr), Step::Read(0), Step::Use];
     check(&rt, &mut cache, need(0, Level::Pr), &bytes, &steps)?;
     assert_eq!(rt;

@@ -3,33 +3,33 @@ use Rattle.std.proofs.lemmas.Bool.{cases_lt}
 use Rattle.std.proofs.Math.Numerals.{suc-eq-add-one}
 use Rattle.fbc_kinds.specs.DataSpelling.{any_piece, piece}
 
--- one of two tests passes where the second does
+-- One of two tests passes where the second does.
 or_true : (a b : Bool) → b ≡ true → (a || b) ≡ true
 or_true true b passes = refl
 or_true false b passes = passes
 
--- one of two tests passes where the first does
+-- One of two tests passes where the first does.
 or_true_first : (a b : Bool) → a ≡ true → (a || b) ≡ true
 or_true_first true b passes = refl
 or_true_first false b passes = cc
 
--- none of two tests passes where each fails
+-- None of two tests passes where each fails.
 or_false : (a b : Bool) → a ≡ false → b ≡ false → (a || b) ≡ false
 or_false false b first second = second
 or_false true b first second = cc
 
--- each of two tests fails where none passes
+-- Each of two tests fails where none passes.
 both_fail : (a b : Bool) → (a || b) ≡ false → (a ≡ false) × (b ≡ false)
 both_fail false b none = (refl, none)
 both_fail true b none = cc
 
 module _ (test : List ℕ → Bool) (width : ℕ) (bytes : List ℕ) where
-  -- one piece more fails
+  -- One piece more fails.
   pub any_piece_more : (k : ℕ) → any_piece test width k bytes ≡ false → test (piece width k bytes) ≡ false → any_piece test width (k + 1) bytes ≡ false
   unfolding any_piece
   any_piece_more k before here = rw (← suc-eq-add-one k) (or_false (any_piece test width k bytes) (test (piece width k bytes)) before here)
 
-  -- a piece that passes is one of those
+  -- A piece that passes is one of those.
   pub any_piece_here : (n k : ℕ) → k < n → test (piece width k bytes) ≡ true → any_piece test width n bytes ≡ true
   unfolding any_piece
   any_piece_here zero k inside here = absurd (omega arith)
@@ -39,7 +39,7 @@ module _ (test : List ℕ → Bool) (width : ℕ) (bytes : List ℕ) where
         | inr past ↦ let same : k ≡ n = omega arith in or_true (any_piece test width n bytes) (test (piece width n bytes)) (rw same at here)
       ]
 
-  -- where no piece passes, each one fails
+  -- Where no piece passes, each one fails.
   pub any_piece_none : (n k : ℕ) → k < n → any_piece test width n bytes ≡ false → test (piece width k bytes) ≡ false
   unfolding any_piece
   any_piece_none zero k inside none = absurd (omega arith)
@@ -50,7 +50,7 @@ module _ (test : List ℕ → Bool) (width : ℕ) (bytes : List ℕ) where
         | inr past ↦ let same : n ≡ k = omega arith in rw same at both.1
       ]
 
-  -- where each piece fails, none passes
+  -- Where each piece fails, none passes.
   pub any_piece_all : (n : ℕ) → ((k : ℕ) → k < n → test (piece width k bytes) ≡ false) → any_piece test width n bytes ≡ false
   unfolding any_piece
   any_piece_all zero each = refl

@@ -10,46 +10,23 @@ use Rattle.fbc_kinds.specs.Head.{is_zeros, little_bytes, number_at, number_in}
 use Rattle.fbc_kinds.specs.Limits.{number_limit}
 use Rattle.fbc_kinds.specs.Padding.{padded}
 use Rattle.fbc_kinds.specs.DataSpelling.{IsCell, IsContent, IsVersion, SpellsCell, empty_cell, flag_code, has_bad_length, has_stray_back, has_unknown_flag, is_bad_cell, is_bad_version}
+use Rattle.fbc_cells.proofs.NumberBytes.{AreNumbers, high_fits, low_fits, middle_fits}
 use Rattle.fbc_cells.proofs.OnePage.{same_cell}
 use Rattle.fbc_kinds.proofs.Heads.{FourFail, four_fail, is_zeros-replicate, true_from_not, zeros-is_zeros}
-use Rattle.fbc_kinds.proofs.Numbers.{length-range, range_small, little_2-number_at, little_4-number_at}
+use Rattle.fbc_kinds.proofs.Numbers.{length-range}
 
--- what is zero stands in four bytes of zeros
-zeros_of_zero : (from : ℕ) (bytes : List ℕ) → ((i : ℕ) → get_or bytes i 0 < 256) → from + 4 ≤ length bytes → number_at from (from + 4) bytes ≡ 0 → is_zeros (slice_range bytes from (from + 4)) ≡ true
-zeros_of_zero from bytes small within zero_is = ap is_zeros (little_4-number_at from bytes small within ∙ ap (little_bytes 4) zero_is)
-
--- two bytes of zeros hold zero
+-- Two bytes of zeros hold zero.
 zero_of_zeros : (from : ℕ) (bytes : List ℕ) → from + 2 ≤ length bytes → is_zeros (slice_range bytes from (from + 2)) ≡ true → number_at from (from + 2) bytes ≡ 0
 zero_of_zeros from bytes within zeros =
     let long : length (slice_range bytes from (from + 2)) ≡ 2 = length-range from (from + 2) bytes within ∙ omega arith in
     ap (number_in 256) (zeros-is_zeros (slice_range bytes from (from + 2)) zeros ∙ ap (λ n. replicate n 0) long)
 
--- what is not zero is above zero
+-- What is not zero is above zero.
 some_number : (n : ℕ) → (n ≡ 0 → ⊥) → 0 < n
 some_number zero some = absurd (some refl)
 some_number (suc n) some = omega arith
 
--- a number of some bytes is below the number of all that these can hold
-number_in-lt : (bytes : List ℕ) → ((i : ℕ) → get_or bytes i 0 < 256) → number_in 256 bytes < 256 ^ length bytes
-number_in-lt [] small = omega arith
-number_in-lt (b ∷ bytes) small =
-    let first : b < 256 = small 0 in
-    let rest = number_in-lt bytes (λ i. small (suc i)) in
-    rw (pow-succ' 256 (length bytes)) (omega arith)
-
--- the number in four bytes
-number_4-lt : (from : ℕ) (bytes : List ℕ) → ((i : ℕ) → get_or bytes i 0 < 256) → from + 4 ≤ length bytes → number_at from (from + 4) bytes < number_limit
-number_4-lt from bytes small within =
-    let long : length (slice_range bytes from (from + 4)) ≡ 4 = length-range from (from + 4) bytes within ∙ omega arith in
-    rw long at (number_in-lt (slice_range bytes from (from + 4)) (range_small from (from + 4) bytes small))
-
--- the number in two bytes
-number_2-lt : (from : ℕ) (bytes : List ℕ) → ((i : ℕ) → get_or bytes i 0 < 256) → from + 2 ≤ length bytes → number_at from (from + 2) bytes < 2 ^ 16
-number_2-lt from bytes small within =
-    let long : length (slice_range bytes from (from + 2)) ≡ 2 = length-range from (from + 2) bytes within ∙ omega arith in
-    rw long at (number_in-lt (slice_range bytes from (from + 2)) (range_small from (from + 2) bytes small))
-
--- what a version that is not bad keeps to
+-- What a version that is not bad keeps to.
 pub record IsFair (greatest : ℕ) (bytes : List ℕ) : Type 0 where
   pub right_length : has_bad_length greatest bytes ≡ false
   pub numbered : is_zeros (slice_range bytes 4 8) ≡ false
@@ -66,37 +43,37 @@ IsFair-version greatest bytes fair =
       back = fails.fourth;
     }
 
--- an empty cell that is not bad has only zeros
+-- An empty cell that is not bad has only zeros.
 pub empty_zeros : (greatest : ℕ) (bytes : List ℕ) → slice_index bytes 0 ≡ 0 → is_bad_cell greatest bytes ≡ false → bytes ≡ replicate (length bytes) 0
 empty_zeros greatest bytes none fair =
     let zeros : not (is_zeros bytes) ≡ false = rw none at fair in
     zeros-is_zeros bytes (true_from_not (is_zeros bytes) zeros)
 
--- a number above zero is not zero
+-- A number above zero is not zero.
 pub not_zero : (n : ℕ) → 0 < n → (n == 0) ≡ false
 not_zero n some = grind (arith, nat_tests)
 
--- a cell with another flag is a version
+-- A cell with another flag is a version.
 pub fair_version : (greatest : ℕ) (bytes : List ℕ) → 0 < slice_index bytes 0 → is_bad_cell greatest bytes ≡ false → IsFair greatest bytes
 fair_version greatest bytes some fair =
     let other = not_zero (slice_index bytes 0) some in
     IsFair-version greatest bytes (rw other at fair)
 
--- a deletion without a fault has no value
+-- A deletion without a fault has no value.
 deletion_length : (greatest code size : ℕ) → code ≡ 2 → (if code == 2 then not (size == 0) else size == 0 || nat_lt greatest size) ≡ false → size ≡ 0
 deletion_length greatest code size is fair = grind (arith, nat_tests)
 
--- another version without a fault has a value of a byte or more
+-- Another version without a fault has a value of a byte or more.
 value_length : (greatest code size : ℕ) → code ≢ 2 → (if code == 2 then not (size == 0) else size == 0 || nat_lt greatest size) ≡ false → (0 < size) × (size ≤ greatest)
 value_length greatest code size is fair = grind (arith, nat_tests)
 
--- a version without a fault names a back cell only together with a back page
+-- A version without a fault names a back cell only together with a back page.
 back_named : (page cell : Bool) → (page && not cell) ≡ false → page ≡ true → cell ≡ true
 back_named true true fair named = refl
 back_named true false fair named = cc
 back_named false cell fair named = cc
 
--- the cell that stands in these bytes, with this flag
+-- The cell that stands in these bytes, with this flag.
 abbrev pub cell_in : Flag → List ℕ → Cell
 cell_in flag bytes = record {
   flag = flag;
@@ -106,23 +83,23 @@ cell_in flag bytes = record {
   value = take (slice_index bytes 1) (drop 12 bytes);
 }
 
--- a range of zeros
+-- A range of zeros.
 range_zeros : (n from k : ℕ) → from + k ≤ n → take k (drop from (replicate {A = ℕ} n 0)) ≡ replicate {A = ℕ} k 0
 range_zeros n from k within = ap (take k) (drop-replicate from n 0) ∙ take-replicate k (n - from) 0 (omega arith)
 
--- the second byte of zeros
+-- The second byte of zeros.
 first_zero : (n : ℕ) → 12 ≤ n → get_or (replicate {A = ℕ} n 0) 1 0 ≡ 0
 first_zero n long = get_or-replicate n 1 0 0 (omega arith)
 
--- zeros are read as a cell that holds nothing
+-- Zeros are read as a cell that holds nothing.
 pub empty_read : (n : ℕ) → 12 ≤ n → cell_in Empty (replicate {A = ℕ} n 0) ≡ empty_cell
 empty_read n long =
     same_cell Empty Empty (number_at 4 8 (replicate {A = ℕ} n 0)) 0 (number_at 8 12 (replicate {A = ℕ} n 0)) 0 (number_at 2 4 (replicate {A = ℕ} n 0)) 0 (take (get_or (replicate {A = ℕ} n 0) 1 0) (drop 12 (replicate {A = ℕ} n 0))) []
     refl (ap (number_in 256) (range_zeros n 4 4 (omega arith))) (ap (number_in 256) (range_zeros n 8 4 (omega arith)))
     (ap (number_in 256) (range_zeros n 2 2 (omega arith))) (ap (λ k. take k (drop 12 (replicate {A = ℕ} n 0))) (first_zero n long))
 
-module _ (greatest : ℕ) (bytes : List ℕ) (small : (i : ℕ) → get_or bytes i 0 < 256) (long : length bytes ≡ 12 + greatest) (fair : is_bad_cell greatest bytes ≡ false) where
-  -- where a value of `size` bytes is followed by zeros, the bytes are the padded value
+module _ (greatest : ℕ) (bytes : List ℕ) (numbers : AreNumbers bytes) (long : length bytes ≡ 12 + greatest) (fair : is_bad_cell greatest bytes ≡ false) where
+  -- Where a value of `size` bytes is followed by zeros, the bytes are the padded value.
   value_padded : slice_index bytes 1 ≤ greatest → is_zeros (drop (12 + slice_index bytes 1) bytes) ≡ true → drop 12 bytes ≡ padded greatest (take (slice_index bytes 1) (drop 12 bytes))
   value_padded within tail =
       let size = slice_index bytes 1 in
@@ -131,28 +108,28 @@ module _ (greatest : ℕ) (bytes : List ℕ) (small : (i : ℕ) → get_or bytes
       sym (take-append-drop size (drop 12 bytes))
       ∙ ap (λ rest. take size (drop 12 bytes) ++ rest) (drop-drop size 12 bytes ∙ zeros-is_zeros (drop (12 + size) bytes) tail ∙ ap (λ n. replicate n 0) left)
 
-  -- the cell that is read is spelled by the bytes
+  -- The cell that is read is spelled by the bytes.
   pub spelled_by : (flag : Flag) → flag_code flag ≡ slice_index bytes 0 → slice_index bytes 1 ≤ greatest → is_zeros (drop (12 + slice_index bytes 1) bytes) ≡ true → SpellsCell greatest (cell_in flag bytes) bytes
   spelled_by flag is within tail = record {
     flag_is = sym is;
     length_is = sym (length-take-le (slice_index bytes 1) (drop 12 bytes) (omega (arith, length-drop 12 bytes)));
-    back_cell_is = little_2-number_at 2 bytes small (omega arith);
-    number_is = little_4-number_at 4 bytes small (omega arith);
-    back_page_is = little_4-number_at 8 bytes small (omega arith);
+    back_cell_is = numbers.low;
+    number_is = numbers.middle;
+    back_page_is = numbers.high;
     value_is = value_padded within tail;
   }
 
-  -- a version that is not bad has a number, and names no back cell without a back page
+  -- A version that is not bad has a number, and names no back cell without a back page.
   version_in : (flag : Flag) → IsFair greatest bytes → IsVersion (cell_in flag bytes)
   version_in flag is = record {
-    numbered = some_number (number_at 4 8 bytes) (λ none. cc (zeros_of_zero 4 bytes small (omega arith) none, is.numbered));
-    number_fits = number_4-lt 4 bytes small (omega arith);
-    back_page_fits = number_4-lt 8 bytes small (omega arith);
-    back_cell_fits = number_2-lt 2 bytes small (omega arith);
-    back = λ none. zero_of_zeros 2 bytes (omega arith) (back_named (is_zeros (slice_range bytes 8 12)) (is_zeros (slice_range bytes 2 4)) is.back (zeros_of_zero 8 bytes small (omega arith) none));
+    numbered = some_number (number_at 4 8 bytes) (λ none. let zeros : is_zeros (slice_range bytes 4 8) ≡ true = ap is_zeros (numbers.middle ∙ ap (little_bytes 4) none) in cc (zeros, is.numbered));
+    number_fits = middle_fits bytes numbers;
+    back_page_fits = high_fits bytes numbers;
+    back_cell_fits = low_fits bytes numbers;
+    back = λ none. zero_of_zeros 2 bytes (omega arith) (back_named (is_zeros (slice_range bytes 8 12)) (is_zeros (slice_range bytes 2 4)) is.back (ap is_zeros (numbers.high ∙ ap (little_bytes 4) none)));
   }
 
-  -- the cell that is read is within its limits and spelled by the bytes
+  -- The cell that is read is within its limits and spelled by the bytes.
   pub record IsRead (flag : Flag) : Type 0 where
     pub fits : IsCell greatest (cell_in flag bytes)
     pub spelled : SpellsCell greatest (cell_in flag bytes) bytes

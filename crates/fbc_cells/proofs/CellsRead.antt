@@ -7,13 +7,13 @@ use Rattle.fbc_kinds.specs.Head.{is_zeros}
 use Rattle.fbc_kinds.specs.DataSpelling.{IsCell, SpellsCell, empty_cell, piece}
 use Rattle.fbc_kinds.proofs.Heads.{zeros-is_zeros}
 
--- the zeros from a place on
+-- The zeros from a place on.
 pub zeros_left : (n size : ℕ) (bytes : List ℕ) → length bytes ≡ size → is_zeros (drop n bytes) ≡ true → drop n bytes ≡ replicate (size - n) 0
 zeros_left n size bytes long zeros =
     let left : length (drop n bytes) ≡ size - n = omega (arith, length-drop n bytes) in
     zeros-is_zeros (drop n bytes) zeros ∙ ap (λ k. replicate k 0) left
 
--- a cell is read behind those that were read
+-- A cell is read behind those that were read.
 pub cells_read_more : (greatest k : ℕ) (xs now : List Cell) (x : Cell) (bytes : List ℕ) → now ≡ xs ++ x ∷ []
     → length xs ≡ k → All (IsCell greatest) xs → IsCell greatest x
     → ((j : ℕ) → j < k → SpellsCell greatest (get_or xs j empty_cell) (piece (12 + greatest) j bytes)) → SpellsCell greatest x (piece (12 + greatest) k bytes)

@@ -10,7 +10,7 @@ use Rattle.fbc_kinds.specs.Head.{HasHead}
 use Rattle.fbc_kinds.specs.Limits.{cells}
 use Rattle.fbc_cells.proofs.Parts.{piece-written, piece-written_before}
 
--- a cell is written behind those that stand there
+-- A cell is written behind those that stand there.
 pub cells_more : (greatest i : ℕ) (cells : List Cell) (x : Cell) (old part rest : List ℕ)
     → (12 + greatest) * i ≤ length old → length part ≡ 12 + greatest → i < length cells → x ≡ get_or cells i x → SpellsCell greatest x part
     → ((k : ℕ) → k < i → SpellsCell greatest (get_or cells k empty_cell) (piece (12 + greatest) k old))
@@ -20,7 +20,7 @@ cells_more greatest i cells x old part rest within whole inside is spelled so_fa
     (λ k below. rw (piece-written_before (12 + greatest) k i old (part ++ rest) below within) (so_far k below))
     (rw (piece-written (12 + greatest) i old part rest within whole, sym (get_or_read cells i x inside is empty_cell)) spelled)
 
--- the zeros that are left behind the cells
+-- The zeros that are left behind the cells.
 pub zeros_more : (width i total n : ℕ) (old part : List ℕ) → width * (i + 1) ≤ length old → n ≡ width * (i + 1) - width * i → length part ≡ width
     → drop (width * i) old ≡ replicate (total - width * i) 0
     → drop (width * (i + 1)) (take (width * i) old ++ (part ++ drop n (drop (width * i) old))) ≡ replicate (total - width * (i + 1)) 0
@@ -34,7 +34,7 @@ zeros_more width i total n old part within same whole so_far =
     ∙ drop-replicate width (total - width * i) 0
     ∙ ap (λ k. replicate k 0) left
 
--- a page of bytes spells the data page whose head and cells stand in it
+-- A page of bytes spells the data page whose head and cells stand in it.
 pub SpellsData-from_body : (size greatest : ℕ) (page : Data) (items : List Cell) (bytes body : List ℕ)
     → length bytes ≡ size → HasHead 5 page.relation page.page page.sequence bytes → items ≡ page.cells → IsData size greatest page
     → drop 16 bytes ≡ body → (total : ℕ) → total ≡ size - 16

@@ -2,6 +2,7 @@ pub mod AnyPiece
 pub mod CellRead
 pub mod CellsRead
 pub mod CellsWritten
+pub mod NumberBytes
 pub mod OnePage
 pub mod OneSpelling
 pub mod Parts

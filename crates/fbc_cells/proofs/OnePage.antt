@@ -14,23 +14,23 @@ use Rattle.fbc_kinds.specs.DataSpelling.{IsCell, IsContent, IsData, SpellsCell, 
 use Rattle.fbc_kinds.specs.PointerSpelling.{SpellsPointer}
 use Rattle.fbc_kinds.proofs.Numbers.{number_in-little_2, number_in-little_4}
 
--- numbers of four bytes with the same bytes are equal
+-- Numbers of four bytes with the same bytes are equal.
 pub same_from_little_4 : (m n : ℕ) → m < 2 ^ 32 → n < 2 ^ 32 → little_bytes 4 m ≡ little_bytes 4 n → m ≡ n
 same_from_little_4 m n small_m small_n same =
     sym (number_in-little_4 m small_m) ∙ ap (number_in 256) same ∙ number_in-little_4 n small_n
 
--- numbers of two bytes with the same bytes are equal
+-- Numbers of two bytes with the same bytes are equal.
 pub same_from_little_2 : (m n : ℕ) → m < 2 ^ 16 → n < 2 ^ 16 → little_bytes 2 m ≡ little_bytes 2 n → m ≡ n
 same_from_little_2 m n small_m small_n same =
     sym (number_in-little_2 m small_m) ∙ ap (number_in 256) same ∙ number_in-little_2 n small_n
 
--- what two heads that the same bytes have share
+-- What two heads that the same bytes have share.
 pub record SameHead (relation page sequence relation' page' sequence' : ℕ) : Type 0 where
   pub relation_same : relation ≡ relation'
   pub page_same : page ≡ page'
   pub sequence_same : sequence ≡ sequence'
 
--- the same bytes have one head
+-- The same bytes have one head.
 pub one_head : (kind relation page sequence kind' relation' page' sequence' : ℕ) (bytes : List ℕ)
     → relation < 8 → relation' < 8 → page < number_limit → page' < number_limit → sequence < number_limit → sequence' < number_limit
     → HasHead kind relation page sequence bytes → HasHead kind' relation' page' sequence' bytes
@@ -41,7 +41,7 @@ one_head kind relation page sequence kind' relation' page' sequence' bytes r r' 
   sequence_same = same_from_little_4 sequence sequence' s s' (sym x.sequence_is ∙ y.sequence_is);
 }
 
--- a flag is known by its byte
+-- A flag is known by its byte.
 pub one_flag : (f g : Flag) → flag_code f ≡ flag_code g → f ≡ g
 one_flag Empty Empty same = refl
 one_flag Empty Primary same = absurd (omega arith)
@@ -60,7 +60,7 @@ one_flag Back Primary same = absurd (omega arith)
 one_flag Back Deletion same = absurd (omega arith)
 one_flag Back Back same = refl
 
--- the numbers of a cell within its limits have four and two bytes
+-- The numbers of a cell within its limits have four and two bytes.
 pub record HasCellNumbers (content : Cell) : Type 0 where
   pub number_fits : content.number < number_limit
   pub back_page_fits : content.back_page < number_limit
@@ -75,17 +75,17 @@ HasCellNumbers-by Back greatest content is = record { number_fits = is.0.number_
 pub IsCell-numbers : (greatest : ℕ) (content : Cell) → IsCell greatest content → HasCellNumbers content
 IsCell-numbers greatest content is = HasCellNumbers-by content.flag greatest content is
 
--- texts of one length are equal where they are with zeros behind them
+-- Texts of one length are equal where they are with zeros behind them.
 pub one_padded : (width : ℕ) (a b : List ℕ) → length a ≡ length b → padded width a ≡ padded width b → a ≡ b
 one_padded width a b long same =
     sym (take_at a (replicate (width - length a) 0) (length b) long) ∙ ap (take (length b)) same ∙ take_at b (replicate (width - length b) 0) (length b) refl
 
--- cells with equal fields are equal
+-- Cells with equal fields are equal.
 pub same_cell : (f f' : Flag) (n n' p p' c c' : ℕ) (v v' : List ℕ) → f ≡ f' → n ≡ n' → p ≡ p' → c ≡ c' → v ≡ v'
     → (let x : Cell = record { flag = f; number = n; back_page = p; back_cell = c; value = v } in x) ≡ record { flag = f'; number = n'; back_page = p'; back_cell = c'; value = v' }
 same_cell f f' n n' p p' c c' v v' sf sn sp sc sv = cc
 
--- no bytes spell two cells
+-- No bytes spell two cells.
 pub one_cell : (greatest : ℕ) (x y : Cell) (bytes : List ℕ) → IsCell greatest x → IsCell greatest y → SpellsCell greatest x bytes → SpellsCell greatest y bytes → x ≡ y
 one_cell greatest x y bytes is_x is_y a b =
     let fx = IsCell-numbers greatest x is_x in
@@ -97,7 +97,7 @@ one_cell greatest x y bytes is_x is_y a b =
     (same_from_little_2 x.back_cell y.back_cell fx.back_cell_fits fy.back_cell_fits (sym a.back_cell_is ∙ b.back_cell_is))
     (one_padded greatest x.value y.value (sym a.length_is ∙ b.length_is) (sym a.value_is ∙ b.value_is))
 
--- no bytes spell two lists of slots
+-- No bytes spell two lists of slots.
 pub one_list : (xs ys : List ℕ) → length xs ≡ length ys → All (λ n. n < number_limit) xs → All (λ n. n < number_limit) ys → flat_map (little_bytes 4) xs ≡ flat_map (little_bytes 4) ys → xs ≡ ys
 one_list [] [] long fits_x fits_y same = refl
 one_list [] (y ∷ ys) long fits_x fits_y same = absurd (omega arith)
@@ -107,24 +107,24 @@ one_list (x ∷ xs) (y ∷ ys) long fits_x fits_y same =
     let rest : xs ≡ ys = one_list xs ys (omega arith) (λ k d inside. fits_x (suc k) d (omega arith)) (λ k d inside. fits_y (suc k) d (omega arith)) (ap (drop 4) same) in
     cc
 
--- pointer pages with equal fields are equal
+-- Pointer pages with equal fields are equal.
 same_pointer : (p q r r' s s' : ℕ) (xs ys : List ℕ) → p ≡ q → r ≡ r' → s ≡ s' → xs ≡ ys
     → (let x : Pointer = record { page = p; relation = r; sequence = s; slots = xs } in x) ≡ record { page = q; relation = r'; sequence = s'; slots = ys }
 same_pointer p q r r' s s' xs ys sp sr ss sx = cc
 
--- no bytes spell two pointer pages
+-- No bytes spell two pointer pages.
 pub one_pointer_page : (size : ℕ) (x y : Pointer) (bytes : List ℕ) → SpellsPointer size x bytes → SpellsPointer size y bytes → x ≡ y
 one_pointer_page size x y bytes a b =
     let head = one_head 4 x.relation x.page x.sequence 4 y.relation y.page y.sequence bytes a.fits.relation_fits b.fits.relation_fits a.fits.page_fits b.fits.page_fits a.fits.sequence_fits b.fits.sequence_fits a.head b.head in
     let slots = one_list x.slots y.slots (a.fits.count ∙ sym b.fits.count) a.fits.slots_fit b.fits.slots_fit (sym a.slots_are ∙ b.slots_are) in
     same_pointer x.page y.page x.relation y.relation x.sequence y.sequence x.slots y.slots head.page_same head.relation_same head.sequence_same slots
 
--- data pages with equal fields are equal
+-- Data pages with equal fields are equal.
 same_data : (p q r r' s s' : ℕ) (xs ys : List Cell) → p ≡ q → r ≡ r' → s ≡ s' → xs ≡ ys
     → (let x : Data = record { page = p; relation = r; sequence = s; cells = xs } in x) ≡ record { page = q; relation = r'; sequence = s'; cells = ys }
 same_data p q r r' s s' xs ys sp sr ss sx = cc
 
--- no bytes spell two data pages
+-- No bytes spell two data pages.
 pub one_data_page : (size greatest : ℕ) (x y : Data) (bytes : List ℕ) → SpellsData size greatest x bytes → SpellsData size greatest y bytes → x ≡ y
 one_data_page size greatest x y bytes a b =
     let head = one_head 5 x.relation x.page x.sequence 5 y.relation y.page y.sequence bytes a.fits.relation_fits b.fits.relation_fits a.fits.page_fits b.fits.page_fits a.fits.sequence_fits b.fits.sequence_fits a.head b.head in

@@ -11,7 +11,7 @@ use Rattle.fbc_kinds.specs.Limits.{IsPageSize, cells}
 use Rattle.fbc_kinds.specs.DataSpelling.{SpellsCell, SpellsData, cell_bytes, cells_end, piece}
 use Rattle.fbc_kinds.specs.PointerSpelling.{SpellsPointer}
 
--- two lists are equal from a place on where they are from further on, and in the range before that
+-- Two lists are equal from a place on where they are from further on, and in the range before that.
 pub same_range : (i n : ℕ) (a b : List ℕ) → take n (drop i a) ≡ take n (drop i b) → drop (i + n) a ≡ drop (i + n) b → drop i a ≡ drop i b
 same_range i n a b front back =
     sym (take-append-drop n (drop i a))
@@ -19,12 +19,12 @@ same_range i n a b front back =
     ∙ ap (λ xs. xs ++ drop n (drop i b)) front
     ∙ take-append-drop n (drop i b)
 
--- the same for one element
+-- The same for one element.
 pub same_item : (i : ℕ) (a b : List ℕ) → i < length a → i < length b → get_or a i 0 ≡ get_or b i 0 → drop (i + 1) a ≡ drop (i + 1) b → drop i a ≡ drop i b
 same_item i a b in_a in_b item back =
     drop_more a i 0 in_a ∙ ap (λ x. x ∷ drop (i + 1) a) item ∙ ap (λ xs. get_or b i 0 ∷ xs) back ∙ sym (drop_more b i 0 in_b)
 
--- pages with one head and one body are equal
+-- Pages with one head and one body are equal.
 pub same_page : (kind relation page sequence : ℕ) (a b : List ℕ) → 16 ≤ length a → 16 ≤ length b → HasHead kind relation page sequence a → HasHead kind relation page sequence b → drop 16 a ≡ drop 16 b → a ≡ b
 same_page kind relation page sequence a b long_a long_b x y body =
     let twelve = same_range 12 4 a b (x.zeros ∙ sym y.zeros) body in
@@ -34,7 +34,7 @@ same_page kind relation page sequence a b long_a long_b x y body =
     let one = same_item 1 a b (omega arith) (omega arith) (x.one ∙ sym y.one) two in
     same_item 0 a b (omega arith) (omega arith) (x.kind_is ∙ sym y.kind_is) one
 
--- a cell has one spelling
+-- A cell has one spelling.
 pub one_cell_spelling : (greatest : ℕ) (content : Cell) (a b : List ℕ) → 12 ≤ length a → 12 ≤ length b → SpellsCell greatest content a → SpellsCell greatest content b → a ≡ b
 one_cell_spelling greatest content a b long_a long_b x y =
     let eight = same_range 8 4 a b (x.back_page_is ∙ sym y.back_page_is) (x.value_is ∙ sym y.value_is) in
@@ -43,7 +43,7 @@ one_cell_spelling greatest content a b long_a long_b x y =
     let one = same_item 1 a b (omega arith) (omega arith) (x.length_is ∙ sym y.length_is) two in
     same_item 0 a b (omega arith) (omega arith) (x.flag_is ∙ sym y.flag_is) one
 
--- lists are equal where their first pieces are, and what follows these
+-- Lists are equal where their first pieces are, and what follows these.
 pub same_pieces : (width n : ℕ) (a b : List ℕ) → ((k : ℕ) → k < n → piece width k a ≡ piece width k b) → drop (width * n) a ≡ drop (width * n) b → a ≡ b
 same_pieces width zero a b each back = rw (mul-zero width) at back
 same_pieces width (suc n) a b each back =
@@ -51,11 +51,11 @@ same_pieces width (suc n) a b each back =
     let here : drop (width * n + width) a ≡ drop (width * n + width) b = rw step at back in
     same_pieces width n a b (λ k inside. each k (omega arith)) (same_range (width * n) width a b (each n (omega arith)) here)
 
--- all the cells lie within the page
+-- All the cells lie within the page.
 pub cells_end-le : (size greatest : ℕ) → 16 ≤ size → cells_end size greatest ≤ size
 cells_end-le size greatest large = omega (arith, mul-div-le (size - 16) (12 + greatest))
 
--- each cell has its bytes
+-- Each cell has its bytes.
 pub length-cell_bytes : (size greatest k : ℕ) (bytes : List ℕ) → 16 ≤ size → length bytes ≡ size → k < cells size greatest → length (cell_bytes greatest k bytes) ≡ 12 + greatest
 length-cell_bytes size greatest k bytes large whole inside =
     let most : (12 + greatest) * suc k ≤ (12 + greatest) * cells size greatest = mul-le-mul_left (12 + greatest) (omega arith) in
@@ -66,7 +66,7 @@ length-cell_bytes size greatest k bytes large whole inside =
 pub large_page : (size : ℕ) → IsPageSize size → 16 ≤ size
 large_page size is = grind arith
 
--- a pointer page has one spelling
+-- A pointer page has one spelling.
 pub one_pointer_spelling : (size : ℕ) (page : Pointer) (a b : List ℕ) → IsPageSize size → SpellsPointer size page a → SpellsPointer size page b → a ≡ b
 one_pointer_spelling size page a b is x y =
     let large = large_page size is in
@@ -74,7 +74,7 @@ one_pointer_spelling size page a b is x y =
     let long_b : 16 ≤ length b = omega (arith, y.size_is) in
     same_page 4 page.relation page.page page.sequence a b long_a long_b x.head y.head (x.slots_are ∙ sym y.slots_are)
 
--- a data page has one spelling
+-- A data page has one spelling.
 pub one_data_spelling : (size greatest : ℕ) (page : Data) (a b : List ℕ) → IsPageSize size → SpellsData size greatest page a → SpellsData size greatest page b → a ≡ b
 one_data_spelling size greatest page a b is x y =
     let large = large_page size is in

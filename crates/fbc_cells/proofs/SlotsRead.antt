@@ -6,7 +6,7 @@ use Rattle.byteorder.specs.Endian.{little_number}
 use Rattle.fbc_kinds.specs.Head.{little_bytes}
 use Rattle.fbc_kinds.proofs.Numbers.{little_4-number_in}
 
--- the first four of many bytes are bytes
+-- The first four of many bytes are bytes.
 front_small : (a b c d : ℕ) (bytes : List ℕ) → ((i : ℕ) → get_or (a ∷ (b ∷ (c ∷ (d ∷ bytes)))) i 0 < 256) → (i : ℕ) → get_or (a ∷ (b ∷ (c ∷ (d ∷ [])))) i 0 < 256
 front_small a b c d bytes small zero = small 0
 front_small a b c d bytes small (suc zero) = small 1
@@ -14,7 +14,7 @@ front_small a b c d bytes small (suc (suc zero)) = small 2
 front_small a b c d bytes small (suc (suc (suc zero))) = small 3
 front_small a b c d bytes small (suc (suc (suc (suc i)))) = omega arith
 
--- bytes are those of the numbers that are read from them, four bytes each
+-- Bytes are those of the numbers that are read from them, four bytes each.
 pub flat_map-read : (numbers bytes : List ℕ) → length bytes ≡ 4 * length numbers → ((i : ℕ) → get_or bytes i 0 < 256)
     → ((k : ℕ) → k < length numbers → get_or numbers k 0 ≡ little_number 4 (drop (4 * k) bytes))
     → bytes ≡ flat_map (little_bytes 4) numbers

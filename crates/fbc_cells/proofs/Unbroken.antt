@@ -17,14 +17,15 @@ use Rattle.fbc_kinds.proofs.Heads.{is_zeros-replicate, zeros-is_zeros}
 use Rattle.fbc_kinds.proofs.Numbers.{number_in-little_2, number_in-little_4}
 use Rattle.fbc_cells.proofs.AnyPiece.{any_piece_all}
 use Rattle.fbc_cells.proofs.CellRead.{empty_read, not_zero, spelled_by}
+use Rattle.fbc_cells.proofs.NumberBytes.{numbers_of_bytes}
 use Rattle.fbc_cells.proofs.OnePage.{IsCell-numbers}
 use Rattle.fbc_cells.proofs.OneSpelling.{large_page, length-cell_bytes, one_cell_spelling}
 
--- a number equals itself
+-- A number equals itself.
 same_number : (n m : ℕ) → n ≡ m → (n == m) ≡ true
 same_number n m is = grind (arith, nat_tests)
 
--- the head of a page of a relation breaks no rule
+-- The head of a page of a relation breaks no rule.
 pub unbroken_start : (kind relation page sequence : ℕ) (bytes : List ℕ) → nat_le kind 3 ≡ false → (kind == 1) ≡ false → relation < 8 → page < number_limit
     → HasHead kind relation page sequence bytes → broken_start kind page bytes ≡ None
 unbroken_start kind relation page sequence bytes late other known small head =
@@ -37,17 +38,17 @@ unbroken_start kind relation page sequence bytes late other known small head =
     let below : nat_le 8 (relation_in bytes) ≡ false = grind (arith, nat_tests) in
     rw (right_kind, one, zeros, late, other, right_page, below) refl
 
--- a spelled pointer page breaks no rule
+-- A spelled pointer page breaks no rule.
 pub unbroken_pointer : (size : ℕ) (page : Pointer) (bytes : List ℕ) → SpellsPointer size page bytes → broken_pointer page.page bytes ≡ None
 unbroken_pointer size page bytes is =
     unbroken_start 4 page.relation page.page page.sequence bytes refl refl is.fits.relation_fits is.fits.page_fits is.head
 
--- a test fails where it passes only with a contradiction
+-- A test fails where it passes only with a contradiction.
 fails_from : (b : Bool) → (b ≡ true → ⊥) → b ≡ false
 fails_from true never = absurd (never refl)
 fails_from false never = refl
 
--- the bytes of a number above zero are not all zeros
+-- The bytes of a number above zero are not all zeros.
 some_bytes : (n : ℕ) (bytes : List ℕ) → 0 < n → n < number_limit → bytes ≡ little_bytes 4 n → is_zeros bytes ≡ false
 some_bytes n bytes some small is =
     fails_from (is_zeros bytes) (λ zeros.
@@ -56,35 +57,35 @@ some_bytes n bytes some small is =
     let number : n ≡ 0 = sym (number_in-little_4 n small) ∙ ap (number_in 256) (sym is ∙ none) in
     omega arith)
 
--- the number of four zeros is zero
+-- The number of four zeros is zero.
 no_bytes : (n : ℕ) (bytes : List ℕ) → n < number_limit → bytes ≡ little_bytes 4 n → is_zeros bytes ≡ true → n ≡ 0
 no_bytes n bytes small is zeros =
     let long : length bytes ≡ 4 = ap length is in
     let none : bytes ≡ replicate 4 0 = zeros-is_zeros bytes zeros ∙ ap (λ k. replicate k 0) long in
     sym (number_in-little_4 n small) ∙ ap (number_in 256) (sym is ∙ none)
 
--- a back cell without a back page is none
+-- A back cell without a back page is none.
 back_fair : (page cell : Bool) → (page ≡ true → cell ≡ true) → (page && not cell) ≡ false
 back_fair true true named = refl
 back_fair true false named = sym (named refl)
 back_fair false cell named = refl
 
--- a flag is at most 3
+-- A flag is at most 3.
 known_flag : (f : Flag) → nat_lt 3 (flag_code f) ≡ false
 known_flag Empty = refl
 known_flag Primary = refl
 known_flag Deletion = refl
 known_flag Back = refl
 
--- none of four tests passes
+-- None of four tests passes.
 none_of_four : (a b c d : Bool) → a ≡ false → b ≡ false → c ≡ false → d ≡ false → (a || b || c || d) ≡ false
 none_of_four a b c d fa fb fc fd = rw (fa, fb, fc, fd) refl
 
--- the test of the length of a value, by the cell's flag
+-- The test of the length of a value, by the cell's flag.
 right_length : (greatest code size : ℕ) → (code ≡ 2 → size ≡ 0) → (code ≢ 2 → (0 < size) × (size ≤ greatest)) → (if code == 2 then not (size == 0) else size == 0 || nat_lt greatest size) ≡ false
 right_length greatest code size deletion value = grind (arith, nat_tests)
 
--- each of zeros is a byte
+-- Each of zeros is a byte.
 zeros_small : (n i : ℕ) → get_or (replicate {A = ℕ} n 0) i 0 < 256
 zeros_small n i =
     elim (cases_lt i n) [
@@ -92,7 +93,7 @@ zeros_small n i =
       | inr past ↦ let short : length (replicate {A = ℕ} n 0) ≤ i = omega (arith, length-replicate {A = ℕ} n 0) in rw (get_or_past (replicate {A = ℕ} n 0) i 0 short) (omega arith)
     ]
 
--- zeros spell a cell that holds nothing
+-- Zeros spell a cell that holds nothing.
 spelled_zeros : (greatest : ℕ) → SpellsCell greatest empty_cell (replicate (12 + greatest) 0)
 spelled_zeros greatest =
     let width = 12 + greatest in
@@ -102,11 +103,11 @@ spelled_zeros greatest =
     let fair : is_bad_cell greatest (replicate {A = ℕ} width 0) ≡ false = rw none (ap not (is_zeros-replicate width)) in
     let tail : is_zeros (drop (12 + get_or (replicate {A = ℕ} width 0) 1 0) (replicate {A = ℕ} width 0)) ≡ true =
     ap is_zeros (drop-replicate (12 + get_or (replicate {A = ℕ} width 0) 1 0) width 0) ∙ is_zeros-replicate (width - (12 + get_or (replicate {A = ℕ} width 0) 1 0)) in
-    let spelled = spelled_by greatest (replicate {A = ℕ} width 0) (zeros_small width) (length-replicate width 0) fair Empty (sym first) (omega (arith, second)) tail in
+    let spelled = spelled_by greatest (replicate {A = ℕ} width 0) (numbers_of_bytes (replicate {A = ℕ} width 0) (zeros_small width) (omega (arith, length-replicate {A = ℕ} width 0))) (length-replicate width 0) fair Empty (sym first) (omega (arith, second)) tail in
     rw (empty_read width (omega arith)) at spelled
 
 module _ (greatest : ℕ) (content : Cell) (bytes : List ℕ) (long : length bytes ≡ 12 + greatest) (is : SpellsCell greatest content bytes) where
-  -- zeros follow the value
+  -- Zeros follow the value.
   tail_zeros : is_zeros (drop (12 + slice_index bytes 1) bytes) ≡ true
   tail_zeros =
       let value = content.value in
@@ -115,7 +116,7 @@ module _ (greatest : ℕ) (content : Cell) (bytes : List ℕ) (long : length byt
       ∙ drop_at value (replicate (greatest - length value) 0) (slice_index bytes 1) (sym is.length_is) in
       ap is_zeros after ∙ is_zeros-replicate (greatest - length value)
 
-  -- the bytes of a version are not bad
+  -- The bytes of a version are not bad.
   fair_bytes : IsVersion content → has_bad_length greatest bytes ≡ false → is_bad_version greatest bytes ≡ false
   fair_bytes version sized =
       none_of_four (has_bad_length greatest bytes) (is_zeros (slice_range bytes 4 8)) (not (is_zeros (drop (12 + slice_index bytes 1) bytes))) (has_stray_back bytes)
@@ -126,7 +127,7 @@ module _ (greatest : ℕ) (content : Cell) (bytes : List ℕ) (long : length byt
       let none = version.back (no_bytes content.back_page (slice_range bytes 8 12) version.back_page_fits is.back_page_is zeros) in
       ap is_zeros (is.back_cell_is ∙ ap (little_bytes 2) none)))
 
-  -- the bytes of a cell that holds nothing are zeros
+  -- The bytes of a cell that holds nothing are zeros.
   empty_bytes : content ≡ empty_cell → is_zeros bytes ≡ true
   empty_bytes nothing =
       let long_zeros = length-replicate {A = ℕ} (12 + greatest) 0 in
@@ -134,13 +135,13 @@ module _ (greatest : ℕ) (content : Cell) (bytes : List ℕ) (long : length byt
       one_cell_spelling greatest empty_cell bytes (replicate (12 + greatest) 0) (omega arith) (omega arith) (rw nothing at is) (spelled_zeros greatest) in
       ap is_zeros same ∙ is_zeros-replicate (12 + greatest)
 
-  -- the bytes of a version are not those of a bad cell
+  -- The bytes of a version are not those of a bad cell.
   fair_flag : 0 < flag_code content.flag → is_bad_version greatest bytes ≡ false → is_bad_cell greatest bytes ≡ false
   fair_flag some fair =
       let other = not_zero (slice_index bytes 0) (omega (arith, is.flag_is)) in
       rw other fair
 
-  -- the bytes of a cell within its limits are not bad
+  -- The bytes of a cell within its limits are not bad.
   fair_cell : (f : Flag) → content.flag ≡ f → IsContent f greatest content → is_bad_cell greatest bytes ≡ false
   fair_cell Empty flag fits =
       let none = same_number (slice_index bytes 0) 0 (is.flag_is ∙ ap flag_code flag) in
@@ -159,7 +160,7 @@ module _ (greatest : ℕ) (content : Cell) (bytes : List ℕ) (long : length byt
       fair_flag (omega (arith, is.flag_is))
       (fair_bytes fits.0 (right_length greatest (slice_index bytes 0) (slice_index bytes 1) (λ two. absurd (omega arith)) (λ other. (omega (arith, is.length_is, fits.1), omega (arith, is.length_is, fits.2)))))
 
--- a spelled data page breaks no rule
+-- A spelled data page breaks no rule.
 pub unbroken_data : (size greatest : ℕ) (page : Data) (bytes : List ℕ) → IsPageSize size → SpellsData size greatest page bytes → broken_data size greatest page.page bytes ≡ None
 unbroken_data size greatest page bytes right_size is =
     let large = large_page size right_size in

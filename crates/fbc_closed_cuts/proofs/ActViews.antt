@@ -22,7 +22,7 @@ module _ (at : Scene) (h : IsCoherent at.world) (t : AreRequestsTrue at.world) (
   abbrev w : World
   w = at.world
 
-  -- a failed write that lands is a write and a death
+  -- A failed write that lands is a write and a death.
   failed : (page : ℕ) (reason : Cause) → w.is_alive owner ≡ true → GuardOfWrite at owner page reason → (cut : Cut) → IsClosedCut (acted at.shape w owner (Write page reason true) true) cut
       → IsSameView w at.stamps (acted at.shape w owner (Write page reason true) true) (stamps_written w owner page at.stamps) cut (with_one page cut)
   failed page reason may g cut closed =

@@ -1,6 +1,6 @@
--- a set that is closed under single pairs is closed under ways of pairs
+-- A set that is closed under single pairs is closed under ways of pairs.
 use Rattle.std.proofs.Common.{◌≡◌, ℕ, Bool, true}
-use Rattle.fbc_world.specs.WriteOrder.{StandsBefore, straight, through}
+use Rattle.fbc_kinds.specs.Order.{StandsBefore, straight, through}
 
 pub closed_way : (Pairs : ℕ → ℕ → Type 0) (cut : ℕ → Bool) → ((high low : ℕ) → Pairs high low → cut low ≡ true → cut high ≡ true)
     → (high low : ℕ) → StandsBefore Pairs high low → cut low ≡ true → cut high ≡ true

@@ -91,7 +91,7 @@ module _ (shape : Shape) (file : View) (before : History) (owner page : ℕ) (e 
     newest_or_kept other true at = inl (record { page = rw at refl; stamps = rw at refl })
     newest_or_kept other false at = inr (record { page = rw at refl; stamps = rw at refl })
 
-    -- a view that comes to hold the page sees the edit
+    -- A view that comes to hold the page sees the edit.
     pub edit-sees : IsLegal shape file before → IsClosedCut (world_of shape file (edits ∷ before)) cut → cut page ≡ true
         → SeesEdit (scene_of shape file before) owner page (view w (drafted_in w cut)) (view_stamps w s (drafted_in w cut))
     edit-sees legal closed in_cut = record {

@@ -8,7 +8,7 @@ use Rattle.fbc_world.specs.declared.events.Act.TheVariants.{Die}
 use Rattle.fbc_world.specs.Holdings.{is_draft_of}
 use Rattle.fbc_world.specs.PageCell.{newest_in, without}
 use Rattle.fbc_world.specs.World.{World, IsPairIn, acted, newest_of}
-use Rattle.fbc_world.specs.WriteOrder.{StandsBefore}
+use Rattle.fbc_kinds.specs.Order.{StandsBefore}
 use Rattle.fbc_legal.specs.Coherent.{IsCoherent}
 use Rattle.fbc_legal.specs.Scene.{Scene}
 use Rattle.fbc_legal.specs.Stamps.{newest_stamps}
@@ -17,24 +17,24 @@ use Rattle.fbc_legal.proofs.HeaderGrowth.{exclusive-own}
 use Rattle.fbc_closed_cuts.specs.Cut.{Cut, IsClosedCut}
 use Rattle.fbc_closed_cuts.specs.Views.{IsSameView}
 
--- a draft has one owner
+-- A draft has one owner.
 one_owner : (owner other : ℕ) (draft : Option Draft) → IsOwnDraft owner draft → is_draft_of other draft ≡ true → owner ≡ other
 one_owner owner other None own is = absurd cc
 one_owner owner other (Some draft) own is = grind (arith, nat_tests, own, is)
 
 module _ (w : World) (h : IsCoherent w) where
-  -- an owner's pairs
+  -- An owner's pairs.
   abbrev pub OwnPair : ℕ → ℕ → ℕ → Type 0
   OwnPair owner high low = w.has_pair owner high low ≡ true
 
-  -- a pair into a draft is its owner's, and so is the high page's draft
+  -- A pair into a draft is its owner's, and so is the high page's draft.
   pub own_pair : (owner high low : ℕ) → IsPairIn w high low → is_draft_of owner (w.draft low) ≡ true → OwnPair owner high low × (is_draft_of owner (w.draft high) ≡ true)
   own_pair owner high low pair its =
       let held = h.pairs pair.0 high low pair.1 in
       let same : pair.0 ≡ owner = one_owner pair.0 owner (w.draft low) (exclusive-own w h pair.0 low held.2) its in
       (subst (λ o. OwnPair o high low) same pair.1, subst (λ o. is_draft_of o (w.draft high) ≡ true) same held.1)
 
-  -- before an owner's draft only its own drafts stand, by its own pairs
+  -- Before an owner's draft only its own drafts stand, by its own pairs.
   pub own_way : (owner x y : ℕ) → StandsBefore (IsPairIn w) x y → is_draft_of owner (w.draft y) ≡ true → StandsBefore (OwnPair owner) x y × (is_draft_of owner (w.draft x) ≡ true)
   own_way owner x y (StandsBefore.straight high low pair) its =
       let own = own_pair owner high low pair its in
@@ -44,7 +44,7 @@ module _ (w : World) (h : IsCoherent w) where
       let own = own_pair owner high between pair way.1 in
       (StandsBefore.through high between low own.0 way.0, own.1)
 
--- a draft that is left is another's
+-- A draft that is left is another's.
 left_of : (owner : ℕ) (draft : Option Draft) → is_some (without owner draft) ≡ true → (other : ℕ) × (other == owner ≡ false) × (is_draft_of other draft ≡ true)
 left_of owner None left = absurd cc
 left_of owner (Some draft) left = (draft.owner, grind (arith, left), grind (arith, nat_tests))
@@ -71,7 +71,7 @@ module _ (at : Scene) (h : IsCoherent at.world) (owner : ℕ) (landed : Bool) wh
   abbrev after : World
   after = acted at.shape w owner Die landed
 
-  -- another's way is left
+  -- Another's way is left.
   left_way : (other x y : ℕ) → other == owner ≡ false → StandsBefore (OwnPair w h other) x y → StandsBefore (IsPairIn after) x y
   left_way other x y apart (StandsBefore.straight high low pair) = StandsBefore.straight high low (other, rw apart pair)
   left_way other x y apart (StandsBefore.through high between low pair rest) = StandsBefore.through high between low (other, rw apart pair) (left_way other between low apart rest)

@@ -11,7 +11,7 @@ use Rattle.fbc_legal.proofs.Exclusion.{both_of, same_number}
 use Rattle.fbc_closed_cuts.specs.Cut.{Cut, IsClosedCut, view}
 use Rattle.fbc_closed_cuts.specs.Views.{IsSameView, IsViewOfEdit, drafted_in, view_stamps}
 
--- a page without a draft shows what is kept, in any cut
+-- A page without a draft shows what is kept, in any cut.
 undrafted_page : (b : Bool) (kept : Option Page) (draft : Option Draft) → (if b && is_some draft then newest_in kept draft else kept) ≡ (if b then newest_in kept draft else kept)
 undrafted_page true kept None = refl
 undrafted_page true kept (Some draft) = refl
@@ -33,7 +33,7 @@ module _ (w : World) (s : PageStamps) (owner page : ℕ) (e : Edit) (content : P
   abbrev pub after_stamps : PageStamps
   after_stamps = record s { draft = λ p. if p == page then edited else s.draft p }
 
-  -- who had a draft has one
+  -- Who had a draft has one.
   pub still_drafted : (p : ℕ) → is_some (w.draft p) ≡ true → is_some (after.draft p) ≡ true
   still_drafted p there = go (p == page) where
     go : (b : Bool) → is_some (if b then drafted owner (w.draft p) (Some content) else w.draft p) ≡ true

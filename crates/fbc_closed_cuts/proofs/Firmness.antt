@@ -9,12 +9,14 @@ use Rattle.fbc_world.specs.declared.drafts.Draft.{Draft}
 use Rattle.fbc_world.specs.declared.events.Act.{Act}
 use Rattle.fbc_world.specs.declared.events.Act.TheVariants.{Write}
 use Rattle.fbc_world.specs.History.{History, Moment}
-use Rattle.fbc_world.specs.Holdings.{is_draft_of, page_resource}
+use Rattle.fbc_world.specs.Holdings.{is_draft_of}
+use Rattle.fbc_levels.specs.Resources.{page_resource}
 use Rattle.fbc_world.specs.Owners.{is_alive}
 use Rattle.fbc_world.specs.PageCell.{draft, newest_in}
 use Rattle.fbc_world.specs.World.{World, newest_of, world_of}
 use Rattle.fbc_world.proofs.WorldLaws.{IsReplayed-world}
-use Rattle.fbc_legal.specs.Coherent.{IsCoherent, IsCopyHeld, IsDraftHeld, IsNewest, is_usable}
+use Rattle.fbc_legal.specs.Coherent.{IsCoherent, IsCopyHeld, IsDraftHeld, IsNewest}
+use Rattle.fbc_levels.specs.Levels.{is_page_level}
 use Rattle.fbc_legal.specs.Legal.{IsLegal}
 use Rattle.fbc_legal.proofs.Exclusion.{IsOwnDraft, own_draft}
 use Rattle.fbc_legal.proofs.Frame.{draft_left}
@@ -24,7 +26,7 @@ use Rattle.fbc_closed_cuts.specs.Firm.{HasOwnDrafts, IsFirm}
 use Rattle.fbc_closed_cuts.specs.Views.{cut_before, is_edit, with_one}
 use Rattle.fbc_closed_cuts.proofs.CutLaws.{no-new-views}
 
--- the page of a copy shows it in every view that has the owner's drafts
+-- The page of a copy shows it in every view that has the owner's drafts.
 module _ (w : World) (h : IsCoherent w) (owner page : ℕ) (content : Page) (has : w.copy owner page ≡ Some content) (cut : Cut) (own : HasOwnDrafts w owner cut) where
   newest_is : newest_of w page ≡ Some content
   newest_is = subst (λ c. IsNewest c (newest_of w page)) has (h.newest owner page)
@@ -38,12 +40,12 @@ module _ (w : World) (h : IsCoherent w) (owner page : ℕ) (content : Page) (has
 
   pub copy-firm : view w cut page ≡ Some content
   copy-firm = out_case (cut page) (w.draft page) refl refl (own_draft w h owner page (usable (h.held owner page))) newest_is where
-    usable : IsCopyHeld w owner page (w.copy owner page) → is_usable (w.granted owner (page_resource page)) ≡ true
+    usable : IsCopyHeld w owner page (w.copy owner page) → is_page_level (w.granted owner (page_resource page)) ≡ true
     usable held = go held where
-      go : IsCopyHeld w owner page (w.copy owner page) → is_usable (w.granted owner (page_resource page)) ≡ true
+      go : IsCopyHeld w owner page (w.copy owner page) → is_page_level (w.granted owner (page_resource page)) ≡ true
       go is = (subst (IsCopyHeld w owner page) has is).1
 
--- a cut with one page more has the pages of the cut
+-- A cut with one page more has the pages of the cut.
 more_in : (page : ℕ) (cut : Cut) (p : ℕ) → cut p ≡ true → with_one page cut p ≡ true
 more_in page cut p is = go (p == page) where
   go : (b : Bool) → (if b then true else cut p) ≡ true
@@ -92,7 +94,7 @@ module _ (shape : Shape) (file : View) (before : History) (moment : Moment) (own
   firm-stays passes firm cut own =
       subst (λ (v : View). passes v ≡ true) (sym (one-view cut own)) (firm (cut_before moment.event.act moment.landed cut) (own-before cut own))
 
--- what is firm is so of the newest pages
+-- What is firm is so of the newest pages.
 pub firm-newest : (w : World) (owner : ℕ) (passes : View → Bool) → IsFirm w owner passes → passes (newest_of w) ≡ true
 firm-newest w owner passes firm = subst (λ (v : View). passes v ≡ true) (fun_ext all_pages) (firm (λ page. is_some (w.draft page)) has) where
   draft_there : (d : Option Draft) → is_draft_of owner d ≡ true → is_some d ≡ true

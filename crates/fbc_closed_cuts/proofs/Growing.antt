@@ -9,16 +9,13 @@ use Rattle.fbc_kinds.specs.declared.pages.Page.{Page}
 use Rattle.fbc_kinds.specs.declared.pages.Page.TheVariants as kind
 use Rattle.fbc_kinds.specs.declared.pages.Relation.{Relation}
 use Rattle.fbc_kinds.specs.declared.shapes.Shape.{Shape}
-use Rattle.fbc_kinds.specs.Edits.{applied, given, is_next, pointed, takes_page, with_entry}
+use Rattle.fbc_kinds.specs.Edits.{applied, is_next, pointed, takes_page, with_entry}
 use Rattle.fbc_kinds.specs.Limits.{inventory_limit, pointer_limit, tip_limit}
 use Rattle.fbc_kinds.specs.View.{header_in}
 use Rattle.fbc_kinds.proofs.EditLimits.{slice_get-set_other}
 use Rattle.fbc_legal.proofs.HeaderRanks.{is_format}
 use Rattle.fbc_closed_cuts.specs.Growth.{GrowsInto, HasGrown, HasRelation, IsContinued}
-
-given-some : (test : Bool) (content after : Page) → given test content ≡ Some after → content ≡ after
-given-some true content after is = cc
-given-some false content after is = absurd cc
+use Rattle.fbc_page_edits.proofs.Fitted.{given_some}
 
 pub continued-self : (xs : List ℕ) → IsContinued xs xs
 continued-self xs place page is = is
@@ -63,7 +60,7 @@ grows-on a b c first second header is =
     let last = second middle.later middle.is in
     record { later = last.later; is = last.is; grown = grown-on header middle.later last.later middle.grown last.grown }
 
--- a relation that names one more pointer page
+-- A relation that names one more pointer page.
 abbrev pointed_at : Relation → ℕ → Relation
 pointed_at entry number = record entry { pointers = entry.pointers ++ number ∷ [] }
 
@@ -90,7 +87,7 @@ module _ (relations : List Relation) (relation number : ℕ) (entry : Relation) 
     go (inl same) = more_relation r old found same
     go (inr other) = relation-self old _ (slice_get-set_other relations relation r (pointed_at entry number) other ∙ found)
 
--- a next number that is set is no less
+-- A next number that is set is no less.
 abbrev pub IsNoFall : Option Page → Edit → Type 0
 IsNoFall before (edit.SetNext next) = (header : Header) → header_in before ≡ Some header → header.next ≤ next
 IsNoFall before _ = Unit {0}
@@ -106,7 +103,7 @@ module _ (shape : Shape) (header : Header) where
 
   next : (number : ℕ) (after : Page) → header.next ≤ number → applied shape (edit.SetNext number) (kind.Header header) ≡ Some after → Grows after
   next number after more is =
-      to (record header { next = number }) after (given-some (is_next shape.size (length header.tips) number) (kind.Header (record header { next = number })) after is) (record {
+      to (record header { next = number }) after ((given_some (is_next shape.size (length header.tips) number) (kind.Header (record header { next = number })) after is).1) (record {
         size = refl;
         next = more;
         inventories = grind (arith);
@@ -116,7 +113,7 @@ module _ (shape : Shape) (header : Header) where
 
   inventory : (after : Page) → applied shape edit.AddInventory (kind.Header header) ≡ Some after → Grows after
   inventory after is =
-      to (record header { inventories = header.inventories + 1 }) after (given-some (nat_lt header.inventories inventory_limit) (kind.Header (record header { inventories = header.inventories + 1 })) after is) (record {
+      to (record header { inventories = header.inventories + 1 }) after ((given_some (nat_lt header.inventories inventory_limit) (kind.Header (record header { inventories = header.inventories + 1 })) after is).1) (record {
         size = refl;
         next = grind (arith);
         inventories = grind (arith);
@@ -126,7 +123,7 @@ module _ (shape : Shape) (header : Header) where
 
   tip : (number : ℕ) (after : Page) → applied shape (edit.AddTip number) (kind.Header header) ≡ Some after → Grows after
   tip number after is =
-      to (record header { tips = header.tips ++ number ∷ [] }) after (given-some (takes_page tip_limit header.tips number) (kind.Header (record header { tips = header.tips ++ number ∷ [] })) after is) (record {
+      to (record header { tips = header.tips ++ number ∷ [] }) after ((given_some (takes_page tip_limit header.tips number) (kind.Header (record header { tips = header.tips ++ number ∷ [] })) after is).1) (record {
         size = refl;
         next = grind (arith);
         inventories = grind (arith);

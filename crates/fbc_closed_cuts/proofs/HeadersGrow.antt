@@ -22,7 +22,7 @@ use Rattle.fbc_closed_cuts.specs.Growth.{GrowsInto}
 use Rattle.fbc_closed_cuts.proofs.Growing.{IsNoFall, grows-on, grows-self, header-grows}
 use Rattle.fbc_closed_cuts.proofs.Lineage.{lineage-acted}
 
--- what is no header is under no header that grows
+-- What is no header is under no header that grows.
 from_none : (before after : Option Page) → header_in before ≡ None → GrowsInto before after
 from_none before after none header is = absurd (let both : None ≡ Some header = sym none ∙ is in cc)
 

@@ -18,7 +18,7 @@ module _ (at : Scene) (owner edited : ℕ) (cut : Cut) (takes : TakesBefore at o
   abbrev w : World
   w = at.world
 
-  -- the page shows what its newest content does, or what is kept does and it is out of the cut
+  -- The page shows what its newest content does, or what is kept does and it is out of the cut.
   shown_in : (fact : Fact) (page : ℕ) (b : Bool) (draft : Option Draft)
       → fact (newest_in (w.kept page) draft) (if is_some draft then at.stamps.draft page else at.stamps.kept page)
       → (b ≡ true) ⊎ fact (w.kept page) (at.stamps.kept page)

@@ -4,6 +4,7 @@ pub mod DeathViews
 pub mod ActViews
 pub mod EditViews
 pub mod LeanViews
+pub mod LeansSeen
 pub mod Lineage
 pub mod Growing
 pub mod Unnamed

@@ -30,11 +30,11 @@ module _ (R : Option Page → Option Page → Type 0) (reflexive : (page : Optio
     abbrev w : World
     w = at.world
 
-    -- what holds of the page's kept and newest content
+    -- What holds of the page's kept and newest content.
     abbrev pub Holds : World → Type 0
     Holds world = R (world.kept number) (newest_of world number)
 
-    -- each edit of the page keeps it
+    -- Each edit of the page keeps it.
     abbrev pub EditsKeep : Type 0
     EditsKeep = (e : Edit) → GuardOfEdit at owner number e → (content : Page) → page_after at.shape w owner number e ≡ Some content → Holds w → R (w.kept number) (Some content)
 

@@ -22,12 +22,8 @@ use Rattle.fbc_legal.specs.Guards.{Guard, GuardOfEdit}
 use Rattle.fbc_legal.specs.Scene.{Scene}
 use Rattle.fbc_legal.proofs.Exclusion.{IsOwnDraft, same_number}
 use Rattle.fbc_legal.proofs.HeaderGrowth.{exclusive-own}
+use Rattle.fbc_legal.proofs.Pairs.{kept_draft}
 use Rattle.fbc_closed_cuts.specs.Upheld.{IsMarkDrafted, MarksAreDrafted}
-
--- another's draft is left
-spared : (owner other : ℕ) (draft : Option Draft) → other == owner ≡ false → is_draft_of other draft ≡ true → is_draft_of other (without owner draft) ≡ true
-spared owner other None apart its = absurd cc
-spared owner other (Some draft) apart its = grind (arith, nat_tests, apart, its)
 
 same_drafter : (owner other : ℕ) (draft : Option Draft) → is_draft_of owner draft ≡ true → is_draft_of other draft ≡ true → other == owner ≡ true
 same_drafter owner other None its also = absurd cc
@@ -41,7 +37,7 @@ module _ (w : World) (m : MarksAreDrafted w) (owner : ℕ) where
   died-mark : (o : ℕ) (b : Bool) (mark : Option ℕ) → o == owner ≡ b → IsMarkDrafted w o mark → IsMarkDrafted (dead w owner) o (if b then None else mark)
   died-mark o true mark key is = tt
   died-mark o false None key is = tt
-  died-mark o false (Some page) key is = (spared owner o (w.draft page) key is.0, rw key is.1)
+  died-mark o false (Some page) key is = (kept_draft owner o (w.draft page) key is.0, rw key is.1)
 
   pub died : MarksAreDrafted (dead w owner)
   died o = died-mark o (o == owner) (w.marked o) refl (m o)
@@ -69,7 +65,7 @@ module _ (w : World) (m : MarksAreDrafted w) (owner : ℕ) where
   pub granted : (r : Resource) (level : Level) → MarksAreDrafted (granted_level w owner r level)
   granted r level o = granted-mark r level o (w.marked o) (m o)
 
--- what an edit of an owner without a mark leaves as its mark, and as its transaction
+-- What an edit of an owner without a mark leaves as its mark, and as its transaction.
 number_there : (number : ℕ) (t : Option Transaction) → is_number_of number t ≡ true → is_some t ≡ true
 number_there number None is = absurd cc
 number_there number (Some t) is = refl
@@ -94,7 +90,7 @@ module _ (at : Scene) (h : IsCoherent at.world) (m : MarksAreDrafted at.world) (
     kept true same = absurd (grind (arith, own_of owner o (w.draft page) (exclusive-own w h owner page g.exclusive) (rw (← same_number p page same) is.0), apart))
     kept false other = is.0
 
-  -- the mark of the actor, which had none
+  -- The mark of the actor, which had none.
   made : (t : Option Transaction) → w.transaction owner ≡ t → (edit : Edit) → IsMarkDrafted (record after { transaction = λ o. transaction_after_edit edit t }) owner (mark_after_edit page edit t None)
   made t is (edit.Mark number Committed) = go (is_number_of number t) refl where
     go : (b : Bool) → is_number_of number t ≡ b → IsMarkDrafted (record after { transaction = λ o. t }) owner (if b then Some page else None)

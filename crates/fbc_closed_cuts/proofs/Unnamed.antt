@@ -2,6 +2,7 @@
 use Rattle.std.proofs.Common.{◌≡◌, ◌≢◌, ◌∙◌, ℕ, Bool, true, false, ◌==◌, ◌⊎◌, inl, inr, nat_lt, if◌then◌else◌, List, Option, Some, None, is_some, Contains, refl, sym, ap, subst, arith}
 use Rattle.std.specs.Prelude.{◌/◌, ◌%◌, slice_get, option_and_then}
 use Rattle.std.proofs.lemmas.Bool.Decides.{nat_tests}
+use Rattle.std.proofs.lemmas.Bool.{both_ways}
 use Rattle.std.proofs.lemmas.Option.{get_or_from_slice_get, slice_get_within}
 use Rattle.fbc_kinds.specs.declared.pages.Header.{Header}
 use Rattle.fbc_kinds.specs.declared.pages.Page.{Page}
@@ -10,7 +11,7 @@ use Rattle.fbc_kinds.specs.Limits.{slots}
 use Rattle.fbc_kinds.specs.Reach.{Role, HeaderRole, InventoryRole, TipRole, PointerRole, DataRole, Reaches, ReachesPage}
 use Rattle.fbc_kinds.specs.View.{View, header_in, inventory_of, inventory_page, named_in, pointer_of, size_of, slot_in}
 use Rattle.fbc_world.specs.World.{World, IsPairIn, newest_of}
-use Rattle.fbc_world.specs.WriteOrder.{StandsBefore}
+use Rattle.fbc_kinds.specs.Order.{StandsBefore}
 use Rattle.fbc_legal.specs.Coherent.{IsCoherent}
 use Rattle.fbc_legal.specs.Facts.{Names, NamesNot}
 use Rattle.fbc_legal.specs.Leans.{IsNamedNowhere, IsNotNamedBy}
@@ -25,7 +26,7 @@ use Rattle.fbc_closed_cuts.proofs.WriteViews.{draft_there}
 pub contains_got : (xs : List ℕ) (k x : ℕ) → slice_get xs k ≡ Some x → Contains xs x
 contains_got xs k x is = (k, slice_get_within xs k x is, get_or_from_slice_get xs k x x is)
 
--- the pointer page of a sequence, as a page names it
+-- The pointer page of a sequence, as a page names it.
 abbrev pub pointer_in : Option Page → ℕ → ℕ → Option ℕ
 pointer_in page relation sequence =
     option_and_then (λ (r : Relation). slice_get r.pointers sequence) (option_and_then (λ (h : Header). slice_get h.relations relation) (header_in page))
@@ -52,7 +53,7 @@ names_slot page place number is = of_slot (slot_in page place) refl is where
   of_slot None stands is' = absurd cc
   of_slot (Some n) stands is' = Names.slot place (stands ∙ ap Some (grind (arith, nat_tests, is')))
 
--- what a header names, a header that has grown out of it names
+-- What a header names, a header that has grown out of it names.
 module _ (earlier later : Option Page) (grows : GrowsInto earlier later) where
   pub pointer_grown : (relation sequence number : ℕ) → pointer_in earlier relation sequence ≡ Some number → pointer_in later relation sequence ≡ Some number
   pointer_grown relation sequence number is = of_header (header_in earlier) refl is where
@@ -88,14 +89,14 @@ module _ (at : Scene) (h : IsCoherent at.world) (owner edited : ℕ) (cut : Cut)
   abbrev seen : View
   seen = view w (drafted_in w cut)
 
-  -- a page of a cut shows what is newest, and another what is kept
+  -- A page of a cut shows what is newest, and another what is kept.
   in_of : (page : ℕ) → drafted_in w cut page ≡ true → seen page ≡ newest_of w page
   in_of page is = rw is refl
 
   out_of : (page : ℕ) → drafted_in w cut page ≡ false → seen page ≡ w.kept page
   out_of page is = rw is refl
 
-  -- what the view's header names the newest header names
+  -- What the view's header names the newest header names.
   pointed : (relation sequence pointer : ℕ) → pointer_in (seen 0) relation sequence ≡ Some pointer → pointer_in (newest_of w 0) relation sequence ≡ Some pointer
   pointed relation sequence pointer is = go (drafted_in w cut 0) refl where
     go : (b : Bool) → drafted_in w cut 0 ≡ b → pointer_in (newest_of w 0) relation sequence ≡ Some pointer
@@ -108,16 +109,12 @@ module _ (at : Scene) (h : IsCoherent at.world) (owner edited : ℕ) (cut : Cut)
     go true at = subst (λ o. counted_in (w.kept 0) (newest_of w 0) grows o sequence ≡ Some number) (in_of 0 at) is
     go false at = inventory_grown (w.kept 0) (newest_of w 0) grows sequence number (subst (λ o. counted_in (w.kept 0) (newest_of w 0) grows o sequence ≡ Some number) (out_of 0 at) is)
 
-  -- who stands before a page has a draft, and is in each cut with that page
+  -- Who stands before a page has a draft, and is in each cut with that page.
   before_in : (high low : ℕ) → StandsBefore (IsPairIn w) high low → drafted_in w cut low ≡ true → drafted_in w cut high ≡ true
   before_in high low path is = closed.closed high low path (high_there path) is where
     high_there : {x y : ℕ} → StandsBefore (IsPairIn w) x y → is_some (w.draft x) ≡ true
     high_there (StandsBefore.straight x y pair) = draft_there pair.0 (w.draft x) (h.pairs pair.0 x y pair.1).1
     high_there (StandsBefore.through x between y pair rest) = draft_there pair.0 (w.draft x) (h.pairs pair.0 x between pair.1).1
-
-  clash : (b : Bool) → b ≡ true → b ≡ false → ⊥
-  clash true is isnt = cc
-  clash false is isnt = cc
 
   module _ (page : ℕ) (nowhere : IsNamedNowhere at owner edited page) where
     header_unnamed : ¬ Names (seen 0) page
@@ -129,13 +126,13 @@ module _ (at : Scene) (h : IsCoherent at.world) (owner edited : ℕ) (cut : Cut)
       by = nowhere.pointers relation sequence pointer (pointed relation sequence pointer is)
 
       header_kept : (b : Bool) → drafted_in w cut 0 ≡ b → drafted_in w cut pointer ≡ false → ¬ Names (w.kept 0) pointer → IsBefore at pointer 0 → ⊥
-      header_kept true at out unnamed before = clash (drafted_in w cut pointer) (before_in pointer 0 before at) out
+      header_kept true at out unnamed before = both_ways (drafted_in w cut pointer) out (before_in pointer 0 before at)
       header_kept false at out unnamed before = unnamed (names_pointer (w.kept 0) relation sequence pointer (subst (λ o. pointer_in o relation sequence ≡ Some pointer) (out_of 0 at) is))
 
       out_case : drafted_in w cut pointer ≡ false → (¬ Names (w.kept pointer) page) ⊎ (HasDraft at owner pointer × IsBefore at pointer edited) ⊎ ((¬ Names (w.kept 0) pointer) × IsBefore at pointer 0) → ¬ Names (w.kept pointer) page
       out_case out (inl kept) = kept
       out_case out (inr (inl own)) =
-          absurd (clash (drafted_in w cut pointer) (rw (takes.before_in pointer own.0 own.1, draft_there owner (w.draft pointer) own.0) refl) out)
+          absurd (both_ways (drafted_in w cut pointer) out (rw (takes.before_in pointer own.0 own.1, draft_there owner (w.draft pointer) own.0) refl))
       out_case out (inr (inr late)) = absurd (header_kept (drafted_in w cut 0) refl out late.0 late.1)
 
       go : (b : Bool) → drafted_in w cut pointer ≡ b → ¬ Names (seen pointer) page

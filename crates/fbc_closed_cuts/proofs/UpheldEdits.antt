@@ -8,13 +8,13 @@ use Rattle.fbc_kinds.specs.declared.shapes.Shape.{Shape}
 use Rattle.fbc_kinds.specs.Sound.{IsSound}
 use Rattle.fbc_kinds.specs.View.{View}
 use Rattle.fbc_levels.specs.declared.levels.Level.TheVariants.{Ex}
-use Rattle.fbc_views.specs.Allowed.{Fits}
-use Rattle.fbc_views.specs.Edited.{IsOfShape, with_page}
-use Rattle.fbc_views.proofs.ShapeKept.{shape-kept}
+use Rattle.fbc_page_edits.specs.Allowed.{Fits}
+use Rattle.fbc_page_edits.specs.Edited.{IsOfShape, with_page}
+use Rattle.fbc_page_edits.proofs.ShapeKept.{shape-kept}
 use Rattle.fbc_world.specs.declared.events.Act.TheVariants.{Local}
 use Rattle.fbc_world.specs.declared.events.LocalEvent.TheVariants as local
 use Rattle.fbc_world.specs.History.{History, Moment, happens}
-use Rattle.fbc_world.specs.Holdings.{page_resource}
+use Rattle.fbc_levels.specs.Resources.{page_resource}
 use Rattle.fbc_world.specs.PageCell.{edited, page_for}
 use Rattle.fbc_world.specs.World.{World, newest_of, page_after, world_of}
 use Rattle.fbc_legal.specs.Guards.{GuardOfEdit}
@@ -31,8 +31,8 @@ use Rattle.fbc_closed_cuts.proofs.CutLaws.{edit-sees, edit-spares, edit-views}
 use Rattle.fbc_closed_cuts.proofs.HeadersGrow.{headers-grow}
 use Rattle.fbc_closed_cuts.proofs.MarksKept.{marks-acted}
 
--- the newest content is what an edit of its owner begins with
-fits_of : (shape : Shape) (e : Edit) (old : Option Page) (content : Page) → edited shape e old ≡ Some content → Fits shape e old content
+-- The newest content is what an edit of its owner begins with.
+pub fits_of : (shape : Shape) (e : Edit) (old : Option Page) (content : Page) → edited shape e old ≡ Some content → Fits shape e old content
 fits_of shape (edit.Format k p r s) (Some before) content is = is
 fits_of shape (edit.Format k p r s) None content is = is
 fits_of shape (edit.SetNext next) (Some before) content is = is
@@ -80,7 +80,7 @@ module _ (shape : Shape) (file : View) (before : History) (owner page : ℕ) (e 
     abbrev seen_stamps : ℕ → Stamps
     seen_stamps = view_stamps w s (drafted_in w cut)
 
-    -- a view without the page
+    -- A view without the page.
     module _ (out : cut page ≡ false) where
       spared : IsSameView w s after (stamps_of shape file (edits ∷ before)) cut (drafted_in w cut)
       spared = edit-spares shape file before owner page e landed content cut is closed out
@@ -94,7 +94,7 @@ module _ (shape : Shape) (file : View) (before : History) (owner page : ℕ) (e 
       pub sound-without : IsSound (view after cut)
       sound-without = subst IsSound same_view (u.sound (drafted_in w cut) spared.closed)
 
-    -- a view with the page
+    -- A view with the page.
     module _ (in_cut : cut page ≡ true) where
       changed : IsViewOfEdit w s after (stamps_of shape file (edits ∷ before)) page content cut
       changed = edit-views shape file before owner page e landed content cut is closed in_cut

@@ -7,7 +7,7 @@ use Rattle.fbc_kinds.specs.declared.pages.Page.{Page}
 use Rattle.fbc_kinds.specs.declared.shapes.Shape.{Shape}
 use Rattle.fbc_kinds.specs.Sound.{IsSound}
 use Rattle.fbc_kinds.specs.View.{View}
-use Rattle.fbc_views.specs.Edited.{IsOfShape}
+use Rattle.fbc_page_edits.specs.Edited.{IsOfShape}
 use Rattle.fbc_world.specs.declared.events.Act.{Act}
 use Rattle.fbc_world.specs.declared.events.Act.TheVariants.{Local}
 use Rattle.fbc_world.specs.declared.events.LocalEvent.TheVariants as local
@@ -41,7 +41,7 @@ module _ (shape : Shape) (file : View) (of_shape : IsOfShape shape file) (sound 
     sound = λ cut closed. subst IsSound (one_file cut) sound;
   }
 
--- one edit upholds what is upheld, where it keeps views true after the history
+-- One edit upholds what is upheld, where it keeps views true after the history.
 pub edit-upholds : (shape : Shape) (file : View) (before : History) (owner page : ℕ) (e : Edit) (landed : Bool) → IsLegal shape file (happens owner (Local (local.Edit page e)) landed ∷ before)
     → IsUpheld (scene_of shape file before) → KeepsViewsSound shape file before e → IsUpheld (scene_of shape file (happens owner (Local (local.Edit page e)) landed ∷ before))
 edit-upholds shape file before owner page e landed legal u owed = go (page_after shape (world_of shape file before) owner page e) refl (fits legal.1.guard) where

@@ -8,7 +8,7 @@ use Rattle.fbc_world.specs.declared.events.Act.TheVariants.{Write}
 use Rattle.fbc_world.specs.Holdings.{is_draft_of}
 use Rattle.fbc_world.specs.PageCell.{newest_in, page_for, without}
 use Rattle.fbc_world.specs.World.{World, IsPairIn, acted, newest_of}
-use Rattle.fbc_world.specs.WriteOrder.{StandsBefore}
+use Rattle.fbc_kinds.specs.Order.{StandsBefore}
 use Rattle.fbc_legal.specs.Guards.{GuardOfWrite}
 use Rattle.fbc_legal.specs.Scene.{Scene}
 use Rattle.fbc_legal.specs.Stamps.{Stamps, newest_stamps, stamps_written}
@@ -16,12 +16,12 @@ use Rattle.fbc_legal.proofs.Exclusion.{same_number}
 use Rattle.fbc_closed_cuts.specs.Cut.{Cut, IsClosedCut}
 use Rattle.fbc_closed_cuts.specs.Views.{IsSameView, with_one}
 
--- an owner's draft is one
+-- An owner's draft is one.
 pub draft_there : (owner : ℕ) (draft : Option Draft) → is_draft_of owner draft ≡ true → is_some draft ≡ true
 draft_there owner None own = absurd cc
 draft_there owner (Some draft) own = refl
 
--- in any cut a written page shows its draft
+-- In any cut a written page shows its draft.
 shows_draft : (owner : ℕ) (kept : Option Page) (draft : Option Draft) (b : Bool) → is_draft_of owner draft ≡ true
     → (if b then newest_in (page_for owner kept draft) (without owner draft) else page_for owner kept draft) ≡ newest_in kept draft
 shows_draft owner kept None b own = absurd cc
@@ -51,7 +51,7 @@ module _ (at : Scene) (owner page : ℕ) (reason : Cause) (landed : Bool) (g : G
   pair_left : (high low : ℕ) → high == page ≡ false → IsPairIn w high low → IsPairIn after high low
   pair_left high low other pair = (pair.0, rw other pair.1)
 
-  -- a way before the write is left, unless it leads from the page or through it
+  -- A way before the write is left, unless it leads from the page or through it.
   left : (x y : ℕ) → Way x y → Left x y ⊎ (x ≡ page) ⊎ Way x page
   left x y (StandsBefore.straight high low pair) = go (high == page) refl where
     go : (b : Bool) → high == page ≡ b → Left high low ⊎ (high ≡ page) ⊎ Way high page

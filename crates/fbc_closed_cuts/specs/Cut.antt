@@ -4,7 +4,7 @@ use Rattle.std.specs.List.{All, list_any}
 use Rattle.fbc_kinds.specs.declared.edges.Edge.{Edge}
 use Rattle.fbc_kinds.specs.View.{View}
 use Rattle.fbc_world.specs.World.{IsPairIn, World, newest_of}
-use Rattle.fbc_world.specs.WriteOrder.{StandsBefore}
+use Rattle.fbc_kinds.specs.Order.{StandsBefore}
 
 -- A set of pages, as a test.
 abbrev pub Cut : Type 0

@@ -4,3 +4,4 @@ pub mod Growth
 pub mod Upheld
 pub mod Owed
 pub mod Firm
+pub mod Edited

@@ -1,7 +1,7 @@
 -- Views after an event, and the views before it that they come from.
 use Rattle.std.specs.Prelude.{◌≡◌, ◌==◌, ◌&&◌, ◌||◌, not, ℕ, Bool, true, false, if◌then◌else◌, is_some}
 use Rattle.fbc_kinds.specs.declared.pages.Page.{Page}
-use Rattle.fbc_views.specs.Edited.{with_page}
+use Rattle.fbc_page_edits.specs.Edited.{with_page}
 use Rattle.fbc_world.specs.declared.events.Act.{Act}
 use Rattle.fbc_world.specs.declared.events.Act.TheVariants.{Local, Write}
 use Rattle.fbc_world.specs.declared.events.LocalEvent.TheVariants as local

@@ -7,8 +7,11 @@ ghost use Rattle.fbc_world.specs.World.{IsPairIn, World, newest_of};
 /// A set of drafted pages is a closed cut if it has with the low page of each pair its high one.
 /// Where each high page of a pair has a draft, this is so in every closed cut.
 pub fn pairs_close_cuts()
-    ensures closed { (w : World) (cut : Cut) → ((page : ℕ) → cut page ≡ true → IsSome (w.draft page)) → ((high low : ℕ) → IsPairIn w high low → cut low ≡ true → cut high ≡ true) → IsClosedCut w cut }
-    ensures pair { (w : World) (cut : Cut) (high low : ℕ) → IsClosedCut w cut → IsPairIn w high low → IsSome (w.draft high) → cut low ≡ true → cut high ≡ true }
+    ensures closed { (w : World) (cut : Cut) → ((page : ℕ) → cut page ≡ true → IsSome (w.draft page))
+        → ((high low : ℕ) → IsPairIn w high low → cut low ≡ true → cut high ≡ true)
+        → IsClosedCut w cut }
+    ensures pair { (w : World) (cut : Cut) (high low : ℕ) → IsClosedCut w cut → IsPairIn w high low
+        → IsSome (w.draft high) → cut low ≡ true → cut high ≡ true }
 {}
 
 /// With no draft the view is what is kept, and with all drafts it is what is newest.

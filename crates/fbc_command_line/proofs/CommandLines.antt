@@ -10,14 +10,14 @@ use Rattle.fbc_command_line.specs.declared.commands.Command.TheVariants as comma
 use Rattle.fbc_command_line.specs.Commands.{TellsCommand, TellsBehind, TellsFile, SpellsNamed, SpellsBehind, SpellsCommand}
 use Rattle.fbc_command_line.specs.NewFile.{SpellsFile}
 
--- the first word, and the others as they are taken
+-- The first word, and the others as they are taken.
 pub first_word : {A : Type 0} (words : List A) (word : A) → 1 ≤ length words → word ≡ get_or words 0 word → words ≡ word ∷ take (length words - 1) (drop 1 words)
 first_word [] word some is = absurd (omega arith)
 first_word (first ∷ rest) word some is =
     let all : take (length (first ∷ rest) - 1) (drop 1 (first ∷ rest)) ≡ rest = grind (arith, common_steps) in
     cc
 
--- what is told of the words behind a name is told of the whole line
+-- What is told of the words behind a name is told of the whole line.
 module _ (words : List (String Global)) (name : String Global) (behind : List (String Global)) (are : words ≡ name ∷ behind) where
   behind_is : (command : Command) (spells : SpellsCommand words command) → SpellsNamed (string_bytes name) behind command
   behind_is command spells =
@@ -34,7 +34,7 @@ module _ (words : List (String Global)) (name : String Global) (behind : List (S
   whole_result text (Ok found) is tells = whole_line text found is tells
   whole_result text (Err e) is tells = tt
 
--- a new file is the one command of its name
+-- A new file is the one command of its name.
 file_named : (words : List (String Global)) (size_word : String Global) (rest : List (String Global)) (command : Command) → words ≡ size_word ∷ rest → SpellsNamed (codes "create") words command
     → (size : ℕ) × (relations : List NewRelation) × SpellsFile (string_bytes size_word) rest size relations
 file_named words size_word rest (command.Create size relations) are is =

@@ -15,13 +15,13 @@ use Rattle.fbc_command_line.specs.OptionReading.{first_of}
 use Rattle.fbc_command_line.specs.Options.{GiveEach, GiveOptions, is_given, options_in}
 use Rattle.fbc_command_line.proofs.OptionLemmas.{is_begun, read}
 
--- the options that come after those so far, where all words give these
+-- The options that come after those so far, where all words give these.
 pub record AreRest (table : List OptionRule) (rest : List (String Global)) (so_far all : List Given) : Type 0 where
   pub later : List Given
   pub joined : all ≡ so_far ++ later
   pub each : GiveEach table later rest
 
--- the words before a place gave these options
+-- The words before a place gave these options.
 pub record IsReadSoFar (table : List OptionRule) (words : List (String Global)) (at : ℕ) (so_far : List Given) : Type 0 where
   pub within : at ≤ length words
   pub whole : (later : List Given) → GiveEach table later (drop at words) → GiveEach table (so_far ++ later) words
@@ -32,7 +32,7 @@ all_at : (P : ℕ → Type 0) (so_far later : List Given) (one : Given) → AllB
 all_at P [] later one all = all.0
 all_at P (first ∷ so_far) later one all = all_at P so_far later one all.1
 
--- an option that is given already is not given again
+-- An option that is given already is not given again.
 twice : (so_far later : List Given) (one : Given) → is_given so_far one.option ≡ true → IsDistinct nat_eq (options_in (so_far ++ one ∷ later)) → ⊥
 twice [] later one given once = cc
 twice (first ∷ so_far) later one given once =
@@ -58,14 +58,14 @@ module _ (table : List OptionRule) (words : List (String Global)) where
     once = tt;
   }
 
-  -- nothing is left: these are the options that the words give
+  -- Nothing is left: these are the options that the words give.
   pub all_read : (at : ℕ) (given : List Given) → IsReadSoFar table words at given → length words ≤ at → GiveOptions table words given
   all_read at given so_far over = record {
     each = subst (λ all. GiveEach table all words) (append-nil given) (so_far.whole [] (drop_all at words over));
     once = so_far.once;
   }
 
-  -- the option that comes next, where words give these options
+  -- The option that comes next, where words give these options.
   record IsNext (at : ℕ) (so_far all : List Given) : Type 0 where
     pub one : Given
     pub later : List Given

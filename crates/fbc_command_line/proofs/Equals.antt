@@ -10,7 +10,7 @@ use Rattle.std.proofs.lemmas.Bool.Decides.{nat_tests}
 use Rattle.std.proofs.lemmas.Grind.{common_steps}
 
 module _ (test : ℕ → Bool) where
-  -- where none passes, the length is the place
+  -- Where none passes, the length is the place.
   none_before_end : (xs : List ℕ) → list_any test xs ≡ false → position_or_len test xs ≡ length xs
   none_before_end [] none = refl
   none_before_end (x ∷ xs) none = grind (arith, nat_tests, none_before_end xs)
@@ -29,7 +29,7 @@ module _ (test : ℕ → Bool) where
   pub place_behind : (xs ys : List ℕ) (x : ℕ) → list_any test xs ≡ false → test x ≡ true → position test (xs ++ x ∷ ys) ≡ Some (length xs)
   place_behind xs ys x none is = grind (arith, nat_tests, common_steps, before_it xs ys x)
 
-  -- before the first one that passes, none does
+  -- Before the first one that passes, none does.
   pub split_there : (xs : List ℕ) (at : ℕ) → position test xs ≡ Some at → (xs ≡ take at xs ++ get_or xs at 0 ∷ drop (at + 1) xs) × (test (get_or xs at 0) ≡ true) × (list_any test (take at xs) ≡ false)
   split_there xs at is =
       let found = position-Some test xs at 0 is in

@@ -23,7 +23,7 @@ module _ (table : List OptionRule) where
       let something = found.found in
       let no : ⊥ = cc in no
 
-  -- what words begin with, found by the reader
+  -- What words begin with, found by the reader.
   abbrev found_with : Given → ℕ → First
   found_with given taken = record { given = given; words = taken }
 

@@ -28,7 +28,7 @@ map_some f (Some x) y is = let same : f x ≡ y = cc in (x, refl, same)
 abbrev is_equals : ℕ → Bool
 is_equals byte = byte == 61
 
--- the option that words begin with is this one, and stands in so many words
+-- The option that words begin with is this one, and stands in so many words.
 abbrev BeginsWith : List OptionRule → List (String Global) → First → Type 0
 BeginsWith table words first = GivesFirst table first.given words (drop first.words words)
 
@@ -76,12 +76,12 @@ module _ (table : List OptionRule) where
     by_equals_gives first None place is = apart_gives first (none_there is_equals (string_bytes word) place) is
     by_equals_gives first (Some at) place is = joined_gives first at place is
 
-  -- what the reader finds is given
+  -- What the reader finds is given.
   pub is_begun : (words : List (String Global)) (first : First) → first_of table words ≡ Some first → BeginsWith table words first
   is_begun [] first is = cc
   is_begun (word ∷ rest) first is = by_equals_gives word rest first (position is_equals (string_bytes word)) refl is
 
-  -- what words begin with is what the reader finds
+  -- What words begin with is what the reader finds.
   pub record IsRead (given : Given) (words rest : List (String Global)) : Type 0 where
     pub taken : ℕ
     pub found : first_of table words ≡ Some (record { given = given; words = taken })
@@ -117,7 +117,7 @@ module _ (table : List OptionRule) where
   first_with : Given → ℕ → Option ℕ → Option First
   first_with given words number = Some (record { given = record { option = given.option; number = number }; words = words })
 
-  -- what words begin with is found
+  -- What words begin with is found.
   pub read : (given : Given) (words rest : List (String Global)) → GivesFirst table given words rest → IsRead given words rest
   unfolding first_with
   read given words rest (switch word are names bare) =

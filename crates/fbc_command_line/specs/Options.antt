@@ -10,24 +10,24 @@ use Rattle.fbc_command_line.specs.declared.options.OptionRule.{OptionRule}
 use Rattle.fbc_command_line.specs.declared.options.Takes.{Takes}
 use Rattle.fbc_command_line.specs.declared.options.Takes.TheVariants.{Nothing, Number}
 
--- whether a word names an option of this name: two dashes before the name
+-- Whether a word names an option of this name: two dashes before the name.
 abbrev pub names : List ℕ → List ℕ → Bool
 names word name = bytes_eq word (codes "--" ++ name)
 
--- the option that a word names, by its place in the table
+-- The option that a word names, by its place in the table.
 abbrev pub option_named : List OptionRule → List ℕ → Option ℕ
 option_named table word = position (λ rule. names word rule.name) table
 
--- the number that digits spell, where an option takes it
+-- The number that digits spell, where an option takes it.
 abbrev pub number_in : Takes → List ℕ → Option ℕ
 number_in Nothing digits = None
 number_in (Number least most) digits = number_of least most digits
 
--- whether a word has a `=`
+-- Whether a word has a `=`.
 abbrev pub has_equals : List ℕ → Bool
 has_equals word = list_any (λ byte. byte == 61) word
 
--- a word without `=` names this option, which takes this
+-- A word without `=` names this option, which takes this.
 pub record Names (table : List OptionRule) (option : ℕ) (takes : Takes) (word : List ℕ) : Type 0 where
   pub rule : OptionRule
   pub plain : has_equals word ≡ false
@@ -35,7 +35,7 @@ pub record Names (table : List OptionRule) (option : ℕ) (takes : Takes) (word 
   pub rule_is : slice_get table option ≡ Some rule
   pub takes_is : rule.takes ≡ takes
 
--- the first word or two give an option, and the rest stands behind them: `--name` alone for a switch, and `--name=N` or `--name N` for an option with a number
+-- The first word or two give an option, and the rest stands behind them: `--name` alone for a switch, and `--name=N` or `--name N` for an option with a number.
 pub data GivesFirst (table : List OptionRule) (given : Given) (words rest : List (String Global)) : Type 0 where
   switch : (word : String Global) → words ≡ word ∷ rest → Names table given.option Nothing (string_bytes word) → given.number ≡ None → GivesFirst table given words rest
   joined : (word : String Global) (name digits : List ℕ) (takes : Takes) (number : ℕ) → words ≡ word ∷ rest → string_bytes word ≡ name ++ 61 ∷ digits → Names table given.option takes name
@@ -43,25 +43,25 @@ pub data GivesFirst (table : List OptionRule) (given : Given) (words rest : List
   apart : (word next : String Global) (takes : Takes) (number : ℕ) → words ≡ word ∷ next ∷ rest → Names table given.option takes (string_bytes word)
       → number_in takes (string_bytes next) ≡ Some number → given.number ≡ Some number → GivesFirst table given words rest
 
--- words give these options one after another, and nothing else
+-- Words give these options one after another, and nothing else.
 abbrev pub GiveEach : List OptionRule → List Given → List (String Global) → Type 0
 GiveEach table [] words = words ≡ []
 GiveEach table (given ∷ later) words = (rest : List (String Global)) × GivesFirst table given words rest × GiveEach table later rest
 
--- the options that are given
+-- The options that are given.
 abbrev pub options_in : List Given → List ℕ
 options_in given = map (λ one. one.option) given
 
--- whether an option is given
+-- Whether an option is given.
 abbrev pub is_given : List Given → ℕ → Bool
 is_given given option = list_any (λ one. one.option == option) given
 
--- words give these options of the table, each at most once
+-- Words give these options of the table, each at most once.
 pub record GiveOptions (table : List OptionRule) (words : List (String Global)) (given : List Given) : Type 0 where
   pub each : GiveEach table given words
   pub once : IsDistinct (λ option other. option == other) (options_in given)
 
--- what was found is the options that the words give; nothing is found exactly where they give none that the table allows
+-- What was found is the options that the words give; nothing is found exactly where they give none that the table allows.
 abbrev pub TellsOptions : List OptionRule → List (String Global) → Option (List Given) → Type 0
 TellsOptions table words None = (given : List Given) → GiveOptions table words given → ⊥
 TellsOptions table words (Some given) = GiveOptions table words given

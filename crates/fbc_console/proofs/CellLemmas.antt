@@ -9,7 +9,7 @@ use Rattle.fbc_console.specs.FreshFile.{inserted_cell, cells_of}
 use Rattle.fbc_kinds.specs.DataSpelling.{empty_cell}
 use Rattle.fbc_console.specs.StoredPages.{values_in}
 
--- reading the values back gives the values
+-- Reading the values back gives the values.
 map-value-inserted : (values : List (List ℕ)) → map (λ cell. cell.value) (map inserted_cell values) ≡ values
 map-value-inserted [] = refl
 map-value-inserted (value ∷ values) = ap (λ rest. value ∷ rest) (map-value-inserted values)
@@ -27,13 +27,13 @@ pub length-cells_of : (count : ℕ) (values : List (List ℕ)) → length values
 unfolding cells_of
 length-cells_of count values fits = grind (arith, common_steps, length-map values inserted_cell)
 
--- the rest of the cells begins with an empty one where there is room
+-- The rest of the cells begins with an empty one where there is room.
 replicate-sub : (count taken : ℕ) (cell : Cell) → taken < count → replicate (count - taken) cell ≡ cell ∷ replicate (count - (taken + 1)) cell
 replicate-sub count taken cell fits =
     let one_less : count - taken ≡ suc (count - (taken + 1)) = omega arith in
     ap (λ n. replicate n cell) one_less
 
--- putting a value into the first empty cell adds it to the values
+-- Putting a value into the first empty cell adds it to the values.
 pub set-cells_of : (count : ℕ) (values : List (List ℕ)) (value : List ℕ) → length values < count → slice_set (cells_of count values) (length values) (inserted_cell value) ≡ cells_of count (values ++ value ∷ [])
 unfolding cells_of
 set-cells_of count values value fits =

@@ -12,7 +12,7 @@ use Rattle.fbc_console.specs.Checking.{IsCheckDone, IsReported, WhyNotChecked, c
 use Rattle.fbc_console.specs.Closing.{Outcome, Took}
 use Rattle.fbc_console.proofs.EndingLemmas.{took_nothing}
 
--- a file that the check refuses is refused
+-- A file that the check refuses is refused.
 pub refused_by : (file : Option (List ℕ)) (why : ValidateFault) (rule : Rule) → why ≡ fault.NotOurs rule → WhyNotFound why file → IsRefused rule file
 refused_by file why rule is refused = subst (λ w. WhyNotFound w file) is refused
 

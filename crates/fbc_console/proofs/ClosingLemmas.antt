@@ -8,11 +8,11 @@ use Rattle.fbc_console.specs.Statuses.{status_line}
 use Rattle.fbc_console.specs.Closing.{Outcome, Took, SinkTakesPast, Closes, written, cut, short, EndsWith, IsLineWritten, whole, part, memory, IsClosed}
 use Rattle.fbc_console.proofs.SayingLemmas.{takes_both, takes_none}
 
--- a sink that is not called
+-- A sink that is not called.
 pub takes_nothing : (a : List ℕ → Type 0) → SinkTakes a a []
 takes_nothing a text had = subst a (sym (append-nil text)) had
 
--- a first part of a text, and then nothing
+-- A first part of a text, and then nothing.
 some_none : (a b c : List ℕ → Type 0) (x : List ℕ) → SinkTakesSome a b x → SinkTakes b c [] → SinkTakesSome a c x
 some_none a b c x first next text had = go (first text had)
   where

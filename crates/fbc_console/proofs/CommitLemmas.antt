@@ -16,7 +16,7 @@ pub AreImages-filled : (values : List (List ℕ)) (header inventory held pointer
 AreImages-filled [] header inventory held pointer tip some h i d p t = let no : ⊥ = omega (arith, some) in absurd no
 AreImages-filled (value ∷ values) header inventory held pointer tip some h i d p t = (h, (i, (d, (p, (t, tt)))))
 
--- bytes are a fresh page's where they are the same as bytes that spell it
+-- Bytes are a fresh page's where they are the same as bytes that spell it.
 pub is_fresh : {X : Type 0} (Spells : X → List ℕ → Type 0) (page fresh : X) (bytes image : List ℕ) (same : Bool) → page ≡ fresh → Spells page image → (IsTrue same ↔ (bytes ≡ image)) → ((a b : List ℕ) → Spells fresh a → Spells fresh b → a ≡ b) → IsTrue same ↔ Spells fresh bytes
 is_fresh Spells page fresh bytes image same is spelled test once =
     let whole : Spells fresh image = subst (λ p. Spells p image) is spelled in

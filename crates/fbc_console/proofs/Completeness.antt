@@ -25,7 +25,7 @@ use Rattle.fbc_console.specs.Making.{WhyNotMade, IsMade, IsCreateDone, unmade, m
 use Rattle.fbc_console.specs.Ending.{IsTransactionTold, IsPlayed, WhyNotPlayed, fault, memory, refused, unasked, other, IsPlayDone, stopped, played, IsCarriedOut, no_command, no_memory, create, validate, play, HasEnded}
 use Rattle.fbc_console.specs.Completing.{IsPlainPlay, IsPlainCreate, IsPlainCheck, IsCompleted, IsChecked}
 
--- an outcome is well, or comes of a fault or of want of memory
+-- An outcome is well, or comes of a fault or of want of memory.
 abbrev IsFault : Outcome → Type 0
 IsFault (Ok done) = Unit {0}
 IsFault (Err status.DeviceFault) = Unit {0}
@@ -48,7 +48,7 @@ ends_well (Err status.DeviceFault) old new told last is ends no_device no_source
 ends_well (Err status.SourceFault) old new told last is ends no_device no_source no_sink = closes status.SourceFault last old new told ends no_source no_sink
 ends_well (Err _) old new told last is ends no_device no_source no_sink = let no : ⊥ = is in absurd no
 
--- the words spell at most one command
+-- The words spell at most one command.
 abbrev IsOneCommand : List (String Global) → Type 0
 IsOneCommand words = (one other : Command) → SpellsCommand words one → SpellsCommand words other → one ≡ other
 
@@ -142,7 +142,7 @@ create_out reach words left outcome told now size relations only spells (validat
 create_out reach words left outcome told now size relations only spells (play played_words done) =
     let clash = only (command.Create size relations) command.Play spells played_words in let no : ⊥ = cc in absurd no
 
--- the same of a check, which may say that there is damage
+-- The same of a check, which may say that there is damage.
 abbrev IsCheckFault : Outcome → Type 0
 IsCheckFault (Err status.Damaged) = Unit {0}
 IsCheckFault outcome = IsFault outcome
@@ -173,7 +173,7 @@ check_out reach words left bytes unbroken outcome told now json only spells (val
 check_out reach words left bytes unbroken outcome told now json only spells (play played_words done) =
     let clash = only (command.Validate json) command.Play spells played_words in let no : ⊥ = cc in absurd no
 
--- a check ends well, or says that there is damage
+-- A check ends well, or says that there is damage.
 ends_checked : (outcome : Outcome) (old new : List ℕ → Type 0) (told : List ℕ) (last : Status) → IsCheckFault outcome → EndsWith outcome old new told last
     → (last ≡ status.DeviceFault → ⊥) → (last ≡ status.SourceFault → ⊥) → (last ≡ status.SinkFault → ⊥) → IsChecked last
 ends_checked (Ok done) old new told last is ends no_device no_source no_sink = inr (ends_well (Ok done) old new told last is ends no_device no_source no_sink)

@@ -25,7 +25,7 @@ use Rattle.fbc_console.specs.Ending.{IsTransactionTold, IsFreshPlayed, WhyNotPla
 use Rattle.fbc_console.proofs.FirstLines.{told_some}
 use Rattle.fbc_console.proofs.ClosingLemmas.{takes_nothing, ends}
 
--- the lines that a transaction's sink took
+-- The lines that a transaction's sink took.
 told_of : (outcome : Outcome) (a c : List ℕ → Type 0) (steps : List Step) (before now : Option (List ℕ)) → IsTransactionSaid outcome a c steps before now
     → (told : List ℕ) × IsTransactionTold outcome steps told before now × Took outcome a c told
 told_of (Ok done) a c steps before now said = (transcript steps, refl, said)
@@ -72,7 +72,7 @@ pub ended : (reach : ℕ) (words : List (String Global)) (left before now : Opti
 ended reach words left before now a b c outcome last (told, done, took) closed =
     record { outcome = outcome; told = told; done = done; ends = ends outcome a b c told last took closed }
 
--- where nothing is written, nothing is taken
+-- Where nothing is written, nothing is taken.
 pub took_nothing : (outcome : Outcome) (a : List ℕ → Type 0) → Took outcome a a []
 took_nothing (Err status.SinkFault) a = λ text had. (0, omega arith, takes_nothing a text had)
 took_nothing (Ok done) a = takes_nothing a
@@ -82,7 +82,7 @@ pub not_played : (left before now : Option (List ℕ)) (a : List ℕ → Type 0)
     → (told : List ℕ) × IsPlayDone left before now (Err ended) told × Took (Err ended) a a told
 not_played left before now a ended why same = ([], stopped ended refl why refl same, took_nothing (Err ended) a)
 
--- what was found of a file that is as it was
+-- What was found of a file that is as it was.
 pub told_fresh : (fresh : Bool) (before file : Option (List ℕ)) → fresh ≡ true → file ≡ before → TellsFresh fresh file → IsFreshDevice before
 told_fresh fresh before file is same tells = subst IsFreshDevice same (subst (λ (b : Bool). TellsFresh b file) is tells)
 
@@ -109,7 +109,7 @@ pub create_carried_out : (reach : ℕ) (words : List (String Global)) (left befo
     → (told : List ℕ) × IsCarriedOut reach words left before now outcome told × Took outcome a c told
 create_carried_out reach words left before now a c outcome size relations spells (told, done, took) = (told, create size relations spells done, took)
 
--- what was found is this command
+-- What was found is this command.
 pub told_command : (words : List (String Global)) (found : Option Command) (inner is : Command) → found ≡ Some inner → inner ≡ is → TellsCommand words found → SpellsCommand words is
 told_command words found inner is found_is inner_is tells = subst (SpellsCommand words) inner_is (subst (TellsCommand words) found_is tells)
 

@@ -10,7 +10,7 @@ use Rattle.fbc_console.specs.Closing.{Outcome}
 use Rattle.fbc_console.specs.Ending.{IsTransactionTold}
 use Rattle.fbc_console.specs.PlayTheorem.{TellReplies, TellSomeReplies}
 
--- a text begins with another
+-- A text begins with another.
 abbrev Begins : List ℕ → List ℕ → Type 0
 Begins text first = (rest : List ℕ) × (text ≡ first ++ rest)
 
@@ -20,7 +20,7 @@ longer text first more (rest, is) = (rest ++ more, ap (λ z. z ++ more) is ∙ a
 behind : (before text first : List ℕ) → Begins text first → Begins (before ++ text) (before ++ first)
 behind before text first (rest, is) = (rest, ap (λ z. before ++ z) is ∙ sym (append_assoc before first rest))
 
--- later steps tell their lines behind those of earlier ones
+-- Later steps tell their lines behind those of earlier ones.
 earlier_first : (later earlier : List Step) → Begins (step_lines (later ++ earlier)) (step_lines earlier)
 earlier_first [] earlier = ([], sym (append-nil (step_lines earlier)))
 earlier_first (step ∷ later) earlier =

@@ -19,23 +19,12 @@ use Rattle.fbc_kinds.specs.TipSpelling.{IsTip}
 use Rattle.fbc_kinds.specs.PointerSpelling.{IsPointer}
 use Rattle.fbc_kinds.specs.DataSpelling.{IsData, IsCell, empty_cell}
 use Rattle.fbc_files.specs.NewPages.{taken_first, active_states, empty_slots}
+use Rattle.fbc_files.proofs.NewFits.{first_active, first_taken, length-active_states, length-empty_slots, length-taken_first}
 use Rattle.fbc_console.specs.FreshFile.{fresh_relation, fresh_header, fresh_inventory, fresh_tip, fresh_pointer, begun_header, filled_inventory, committed_tip, filled_pointer, filled_data, cells_of, inserted_cell}
 use Rattle.fbc_console.specs.StoredPages.{IsShortValue}
 use Rattle.fbc_console.proofs.CellLemmas.{length-cells_of}
 
-pub length-active_states : (count : ℕ) → length (active_states count) ≡ count
-unfolding active_states
-length-active_states count = length-replicate count Active
-
-pub length-empty_slots : (count : ℕ) → length (empty_slots count) ≡ count
-unfolding empty_slots
-length-empty_slots count = length-replicate count 0
-
-pub length-taken_first : (taken free : ℕ) → length (taken_first taken free) ≡ taken + free
-unfolding taken_first
-length-taken_first taken free = grind (arith, common_steps)
-
--- no state is the one between the parts of a commit
+-- No state is the one between the parts of a commit.
 abbrev NoLimbo : List State → Type 0
 NoLimbo states = All (λ state. state ≢ Limbo) states
 
@@ -48,10 +37,6 @@ none_active count = All-replicate (λ state. state ≢ Limbo) count Active (λ e
 
 none_committed : (count : ℕ) → NoLimbo (slice_set (active_states count) 1 Committed)
 none_committed count = All-set (λ state. state ≢ Limbo) (active_states count) 1 Committed (λ e. cc) (none_active count)
-
-first_active : (count : ℕ) → 0 < count → slice_get (active_states count) 0 ≡ Some Active
-unfolding active_states
-first_active count some = grind (arith, common_steps)
 
 first_stays : (states : List State) → 1 < length states → slice_get states 0 ≡ Some Active → slice_get (slice_set states 1 Committed) 0 ≡ Some Active
 first_stays (a ∷ b ∷ states) two is = is
@@ -79,15 +64,7 @@ IsTip-committed = record {
     two : (count : ℕ) → 1 < count → 1 < length (active_states count)
     two count more = omega (arith, length-active_states count, more)
 
-pub slice_get-taken_first : (taken free i : ℕ) → i < taken → slice_get (taken_first taken free) i ≡ Some true
-unfolding taken_first
-slice_get-taken_first taken free i within =
-    let marks : List Bool = replicate taken true in
-    let front : i < length marks = omega (arith, length-replicate taken true, within) in
-    slice_get-get_or (marks ++ replicate free false) i true (omega (arith, length-append marks (replicate free false), front))
-    ∙ ap Some (get_or_append_left marks (replicate free false) true i front ∙ get_or-replicate taken i true true within)
-
--- a mark stays set when another one is set
+-- A mark stays set when another one is set.
 pub slice_get-set_true : (marks : List Bool) (i j : ℕ) → slice_get marks j ≡ Some true → slice_get (slice_set marks i true) j ≡ Some true
 slice_get-set_true marks i j is =
     let within : j < length marks = slice_get_within marks j true is in
@@ -101,8 +78,8 @@ IsInventory-fresh = record {
   page = lit< tt;
   sequence = lit< tt;
   count = length-taken_first 4 8060;
-  own = λ _. slice_get-taken_first 4 8060 1 (lit< tt);
-  header = λ _. slice_get-taken_first 4 8060 0 (lit< tt);
+  own = λ _. first_taken 4 8060 1 (lit< tt);
+  header = λ _. first_taken 4 8060 0 (lit< tt);
 }
 
 pub IsInventory-filled : IsInventory 1024 filled_inventory
@@ -110,8 +87,8 @@ IsInventory-filled = record {
   page = lit< tt;
   sequence = lit< tt;
   count = length-set (taken_first 4 8060) 4 true ∙ length-taken_first 4 8060;
-  own = λ _. slice_get-set_true (taken_first 4 8060) 4 1 (slice_get-taken_first 4 8060 1 (lit< tt));
-  header = λ _. slice_get-set_true (taken_first 4 8060) 4 0 (slice_get-taken_first 4 8060 0 (lit< tt));
+  own = λ _. slice_get-set_true (taken_first 4 8060) 4 1 (first_taken 4 8060 1 (lit< tt));
+  header = λ _. slice_get-set_true (taken_first 4 8060) 4 0 (first_taken 4 8060 0 (lit< tt));
 }
 
 slots_fit : (count : ℕ) → All (λ number. number < number_limit) (empty_slots count)

@@ -1,4 +1,5 @@
 mod CellLemmas
+mod CheckVerdicts
 mod CheckingLemmas
 mod ClosingLemmas
 mod CommitLemmas

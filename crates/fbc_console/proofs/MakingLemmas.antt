@@ -12,11 +12,12 @@ use Rattle.fbc_console.specs.declared.statuses.Status.{Status}
 use Rattle.fbc_console.specs.declared.statuses.Status.TheVariants as status
 use Rattle.fbc_console.specs.Closing.{Took}
 use Rattle.fbc_console.specs.PlayTheorem.{HasFileOf}
-use Rattle.fbc_console.specs.Making.{IsVacant, IsOccupied, TellsVacant, WhyNotMade, created_line, IsCreateDone, unmade, made}
+use Rattle.fbc_console.specs.Bytes.{IsEmpty}
+use Rattle.fbc_console.specs.Making.{IsOccupied, TellsVacant, WhyNotMade, created_line, IsCreateDone, unmade, made}
 use Rattle.fbc_console.proofs.ClosingLemmas.{takes_nothing}
 
--- what was found of a device that is as it was
-pub told_vacant : (vacant : Bool) (file : Option (List ℕ)) → vacant ≡ true → TellsVacant vacant file → IsVacant file
+-- What was found of a device that is as it was.
+pub told_vacant : (vacant : Bool) (file : Option (List ℕ)) → vacant ≡ true → TellsVacant vacant file → IsEmpty file
 told_vacant vacant file is tells = subst (λ (b : Bool). TellsVacant b file) is tells
 
 pub told_occupied : (vacant : Bool) (file : Option (List ℕ)) → vacant ≡ false → TellsVacant vacant file → IsOccupied file
@@ -32,20 +33,20 @@ not_made size relations before now a _ why same = let no : ⊥ = why in absurd n
 module _ (size : ℕ) (relations : List NewRelation)
     (sound : (reach : ℕ) (bytes : List ℕ) → IsNewFile size relations bytes → IsSoundFile reach bytes (listed_view (new_pages size relations)))
     (meaning : MeanTheSame (meaning_of (listed_view (new_pages size relations))) empty) where
-  new_file : (before now : Option (List ℕ)) → IsVacant before → HoldsIfEmpty (IsNewFile size relations) before now → (reach : ℕ) → HasFileOf reach now empty
+  new_file : (before now : Option (List ℕ)) → IsEmpty before → HoldsIfEmpty (IsNewFile size relations) before now → (reach : ℕ) → HasFileOf reach now empty
   new_file None None vacant holds reach = tt
   new_file None (Some after) vacant holds reach = let no : Some after ≡ None = holds in let not : ⊥ = cc in absurd not
   new_file (Some bytes) None vacant holds reach = tt
   new_file (Some bytes) (Some after) vacant holds reach = record { view = listed_view (new_pages size relations); sound = sound reach after (holds vacant); means = meaning }
 
-  pub was_made : (before now : Option (List ℕ)) (a c : List ℕ → Type 0) → IsVacant before → HoldsIfEmpty (IsNewFile size relations) before now → SinkTakes a c (created_line relations)
+  pub was_made : (before now : Option (List ℕ)) (a c : List ℕ → Type 0) → IsEmpty before → HoldsIfEmpty (IsNewFile size relations) before now → SinkTakes a c (created_line relations)
       → (told : List ℕ) × IsCreateDone size relations before now (Ok tt) told × Took (Ok tt) a c told
   was_made before now a c vacant holds took = (created_line relations, made vacant (refl, record { stands = holds; means = new_file before now vacant holds }), took)
 
-  pub was_made_untold : (before now : Option (List ℕ)) (a c : List ℕ → Type 0) → IsVacant before → HoldsIfEmpty (IsNewFile size relations) before now → SinkTakesSome a c (created_line relations)
+  pub was_made_untold : (before now : Option (List ℕ)) (a c : List ℕ → Type 0) → IsEmpty before → HoldsIfEmpty (IsNewFile size relations) before now → SinkTakesSome a c (created_line relations)
       → (told : List ℕ) × IsCreateDone size relations before now (Err status.SinkFault) told × Took (Err status.SinkFault) a c told
   was_made_untold before now a c vacant holds took = (created_line relations, made vacant (refl, record { stands = holds; means = new_file before now vacant holds }), took)
 
-pub was_made_in_part : (size : ℕ) (relations : List NewRelation) (before now : Option (List ℕ)) (a : List ℕ → Type 0) → IsVacant before → HoldsIfEmpty (IsPartOfNewFile size relations) before now
+pub was_made_in_part : (size : ℕ) (relations : List NewRelation) (before now : Option (List ℕ)) (a : List ℕ → Type 0) → IsEmpty before → HoldsIfEmpty (IsPartOfNewFile size relations) before now
     → (told : List ℕ) × IsCreateDone size relations before now (Err status.DeviceFault) told × Took (Err status.DeviceFault) a a told
 was_made_in_part size relations before now a vacant holds = ([], made vacant (refl, holds), takes_nothing a)

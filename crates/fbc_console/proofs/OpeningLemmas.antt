@@ -6,14 +6,14 @@ use Rattle.fbc_outside.specs.Bytes.{ReadsFrom}
 use Rattle.fbc_console.specs.Images.{IsFreshFile}
 use Rattle.fbc_console.specs.Opening.{TellsFresh}
 
--- where more bytes are asked of a file than it has, all of them are read
+-- Where more bytes are asked of a file than it has, all of them are read.
 read_whole : (bytes : List ℕ) (count : ℕ) (into : List ℕ) → ReadsFrom (Some bytes) 0 count into → length into ≡ 4097 → length bytes ≡ 4096 → take count into ≡ bytes
 read_whole bytes count into reads wide size =
     let counted : count ≡ length bytes = grind (arith, reads.0, wide, size) in
     let same : take count into ≡ take count bytes = reads.1 in
     same ∙ ap (λ n. take n bytes) counted ∙ take-length bytes
 
--- and where fewer are read than were asked, the file has no more
+-- And where fewer are read than were asked, the file has no more.
 read_size : (bytes : List ℕ) (count : ℕ) (into : List ℕ) → ReadsFrom (Some bytes) 0 count into → length into ≡ 4097 → length (take count into) ≡ 4096 → length bytes ≡ 4096
 read_size bytes count into reads wide size =
     let same : take count into ≡ take count bytes = reads.1 in

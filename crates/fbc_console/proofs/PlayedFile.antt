@@ -28,7 +28,7 @@ use Rattle.fbc_console.proofs.SmallFile.{Small, header_with, tail_of, pages_of, 
 use Rattle.fbc_console.proofs.SmallFiles.{fresh_small, begun_small, quiet_small, taken_small, held_small, named_small, filled_small, IsSmall-fresh, IsSmall-begun, IsSmall-quiet, IsSmall-taken, IsSmall-held, IsSmall-named, IsSmall-filled, active_at, committed_at, next_at}
 use Rattle.fbc_console.proofs.SmallMeaning.{means_committed, means_rolled_back, means_nothing}
 
--- what makes a file of a list of pages
+-- What makes a file of a list of pages.
 abbrev pub MakesFile : Type 0
 MakesFile =
     (reach : ℕ) (header : Header) (pages : List Page) (bytes : List ℕ)
@@ -37,7 +37,7 @@ MakesFile =
     → IsFile reach bytes (shape_of reach header) (listed_view (kind.Header header ∷ pages))
 
 module _ (reach : ℕ) (makes : MakesFile) where
-  -- the bytes of a small file mean what it means
+  -- The bytes of a small file mean what it means.
   file_of : (s : Small) (values : List (List ℕ)) (count : ℕ) (bytes : List ℕ) (machine : Machine) → IsSmall s values count → ShowsPages (shape_at reach) (pages_of s) bytes → MeanTheSame (meaning_of (view_of s)) machine → IsFileOf reach bytes machine
   file_of s values count bytes machine small shows means = record {
     view = view_of s;
@@ -49,19 +49,19 @@ module _ (reach : ℕ) (makes : MakesFile) where
   fresh_file bytes fresh =
       file_of fresh_small [] 4 bytes empty IsSmall-fresh (fresh_pages reach bytes fresh) (means_nothing fresh_small 4 IsSmall-fresh refl (active_at 4032 1 (lit< tt)))
 
-  -- a small file in which transaction 1 has begun and is not committed
+  -- A small file in which transaction 1 has begun and is not committed.
   begun_file : (s : Small) (values : List (List ℕ)) (count : ℕ) (bytes : List ℕ) → IsSmall s values count → s.next ≡ 2 → s.states ≡ active_states 4032 → ShowsPages (shape_at reach) (pages_of s) bytes → IsFileOf reach bytes empty
   begun_file s values count bytes small next states shows =
       file_of s values count bytes empty small shows
       (means_rolled_back s values count small next (ap (λ held. slice_get held 1) states ∙ active_at 4032 1 (lit< tt)) (ap (λ held. slice_get held 2) states ∙ active_at 4032 2 (lit< tt)))
 
-  -- a small file in which it is committed
+  -- A small file in which it is committed.
   done_file : (s : Small) (values : List (List ℕ)) (count : ℕ) (bytes : List ℕ) → IsSmall s values count → s.next ≡ 2 → s.states ≡ slice_set (active_states 4032) 1 Committed → ShowsPages (shape_at reach) (pages_of s) bytes → IsFileOf reach bytes (machine_with standing.Committed values)
   done_file s values count bytes small next states shows =
       file_of s values count bytes (machine_with standing.Committed values) small shows
       (means_committed s values count small next (ap (λ held. slice_get held 1) states ∙ committed_at 4032 (lit< tt)) (ap (λ held. slice_get held 2) states ∙ next_at 4032 (lit< tt)))
 
--- the bytes are a file that means the machine without rows, or the one with these values
+-- The bytes are a file that means the machine without rows, or the one with these values.
 abbrev IsEitherFile : ℕ → List (List ℕ) → List ℕ → Type 0
 IsEitherFile reach values bytes = IsFileOf reach bytes empty ⊎ IsFileOf reach bytes (machine_with standing.Committed values)
 
@@ -69,7 +69,7 @@ module _ (reach : ℕ) (writes : WritesPages) (makes : MakesFile) (before : List
   shows : ShowsPages (shape_at reach) (pages_of fresh_small) before
   shows = fresh_pages reach before fresh
 
-  -- all images of a commit, without an insert and with some
+  -- All images of a commit, without an insert and with some.
   quiet_file : (images : List PageImage) → AreImages (commit_pages []) images → IsFileOf reach (bytes_after (reverse images) before) (machine_with standing.Committed [])
   quiet_file [] are = absurd are
   quiet_file (header ∷ []) are = absurd are.1
@@ -87,7 +87,7 @@ module _ (reach : ℕ) (writes : WritesPages) (makes : MakesFile) (before : List
       (filled_pages reach writes before shows header are.0 inventory are.1.0 (value ∷ values) held are.1.1.0 pointer are.1.1.1.0 tip are.1.1.1.1.0)
   filled_file value values (header ∷ inventory ∷ held ∷ pointer ∷ tip ∷ more ∷ images) room are = absurd are.1.1.1.1.1
 
-  -- the first images of a commit
+  -- The first images of a commit.
   quiet_part : (images : List PageImage) → AreImages (commit_pages []) images → (count : ℕ) → count ≤ length images → IsEitherFile reach [] (bytes_after (reverse (take count images)) before)
   quiet_part [] are count within = absurd are
   quiet_part (header ∷ []) are count within = absurd are.1

@@ -18,25 +18,25 @@ use Rattle.fbc_console.specs.declared.transaction.Answer.TheVariants as answer
 use Rattle.fbc_console.specs.Transaction.{inserted, answer_to, read_answer, values_after, answer_line, step_lines, transcript}
 use Rattle.fbc_console.specs.PlayTheorem.{commands_after, commands_of, machine_of, reply_of, answer_lines, TellReplies}
 
--- the version that stands where a value was inserted
+-- The version that stands where a value was inserted.
 abbrev pub made_in : Option (List ℕ) → List Made
 made_in None = []
 made_in (Some value) = record { maker = 0; value = Some value } ∷ []
 
--- relation 0 has these values in its rows, and each other relation has nothing
+-- Relation 0 has these values in its rows, and each other relation has nothing.
 abbrev pub rows_of : List (List ℕ) → ℕ → ℕ → List Made
 rows_of values zero row = made_in (slice_get values row)
 rows_of values (suc relation) row = []
 
--- the transaction of attachment 1
+-- The transaction of attachment 1.
 abbrev pub transaction_in : Standing → Transaction
 transaction_in now = record { number = 1; owner = 1; standing = now; snapshot = 1 ∷ [] }
 
--- the machine of that transaction alone
+-- The machine of that transaction alone.
 abbrev pub machine_with : Standing → List (List ℕ) → Machine
 machine_with now values = record { rows = rows_of values; transactions = transaction_in now ∷ [] }
 
--- one value more
+-- One value more.
 push : (values : List (List ℕ)) (text : List ℕ) (row : ℕ) (here : Bool) → here ≡ (length values == row) → (if here then record { maker = 0; value = Some text } ∷ made_in (slice_get values row) else made_in (slice_get values row)) ≡ made_in (slice_get (values ++ text ∷ []) row)
 push [] text zero true is = refl
 push [] text zero false is = let no : ⊥ = grind (arith, nat_tests, is) in absurd no
@@ -68,12 +68,12 @@ read_is_reply : (values : List (List ℕ)) (row : ℕ) (found : Option (List ℕ
 read_is_reply values row None is = rw is refl
 read_is_reply values row (Some value) is = rw is refl
 
--- what the steps are answered where these values stand in the rows, and then the commit
+-- What the steps are answered where these values stand in the rows, and then the commit.
 abbrev pub answers_from : List (List ℕ) → List Step → List Answer
 answers_from values [] = answer.Ok ∷ []
 answers_from values (first ∷ later) = answer_to values first ∷ answers_from (values_after values first) later
 
--- a run of the machine to where its commands take it
+-- A run of the machine to where its commands take it.
 abbrev Runs : Machine → List Command → List Reply → Type 0
 Runs machine asked replies = IsRun machine asked replies (fold machine_step machine asked)
 
@@ -91,7 +91,7 @@ run-whole : (steps : List Step) → Runs empty (commands_of steps) (map reply_of
 run-whole steps =
     (refl, refl, subst (λ machine. Runs machine (commands_after 0 steps) (map reply_of (answers_from [] steps))) (sym begin-machine) (runs [] steps))
 
--- the machine after the steps and the commit
+-- The machine after the steps and the commit.
 machine-after : (values : List (List ℕ)) (steps : List Step) → fold machine_step (machine_with standing.Open values) (commands_after (length values) steps) ≡ machine_with standing.Committed (fold values_after values steps)
 machine-after values [] = refl
 machine-after values (step.Insert text ∷ later) =
@@ -105,7 +105,7 @@ next-values : (earlier : List Step) (next : Step) → values_after (inserted ear
 next-values earlier (step.Insert text) = refl
 next-values earlier (step.Read row) = refl
 
--- the steps behind one another, the newest first
+-- The steps behind one another, the newest first.
 reverse-cons : (first : Step) (later earlier : List Step) → reverse later ++ first ∷ earlier ≡ reverse (first ∷ later) ++ earlier
 reverse-cons first later earlier = sym (append_assoc (reverse later) (first ∷ []) earlier) ∙ ap (λ steps. steps ++ earlier) (sym (reverse-append (first ∷ []) later))
 
@@ -120,7 +120,7 @@ machine-of steps =
     ∙ machine-after [] steps
     ∙ ap (machine_with standing.Committed) (values-inserted [] steps ∙ ap inserted (append-nil (reverse steps)))
 
--- the lines of the steps and of the commit behind those of the steps before them
+-- The lines of the steps and of the commit behind those of the steps before them.
 lines-after : (earlier steps : List Step) (lines : ℕ) → lines ≡ length earlier + length steps + 3 → step_lines (reverse steps ++ earlier) ++ answer_line lines answer.Ok ≡ step_lines earlier ++ answer_lines (length earlier + 3) (answers_from (inserted earlier) steps)
 lines-after earlier [] lines is =
     let here : lines ≡ length earlier + 3 = omega arith in

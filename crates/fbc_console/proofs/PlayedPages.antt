@@ -13,7 +13,7 @@ use Rattle.fbc_kinds.specs.InventorySpelling.{SpellsInventory}
 use Rattle.fbc_kinds.specs.TipSpelling.{SpellsTip}
 use Rattle.fbc_kinds.specs.PointerSpelling.{SpellsPointer}
 use Rattle.fbc_kinds.specs.DataSpelling.{SpellsData}
-use Rattle.fbc_kinds.specs.Spelling.{value_length}
+use Rattle.fbc_kinds.specs.Spelling.{listed_length}
 use Rattle.fbc_outside.specs.Bytes.{written}
 use Rattle.fbc_files.specs.Pages.{ShowsPages, with_page}
 use Rattle.fbc_files.specs.Shapes.{shape_of}
@@ -24,7 +24,7 @@ use Rattle.fbc_console.specs.Writes.{bytes_after}
 use Rattle.fbc_console.proofs.SmallFile.{pages_of}
 use Rattle.fbc_console.proofs.SmallFiles.{fresh_small, begun_small, quiet_small, taken_small, held_small, named_small, filled_small}
 
--- what the write of one page does to a list of pages
+-- What the write of one page does to a list of pages.
 abbrev pub WritesPages : Type 0
 WritesPages =
     (shape : Shape) (number : ℕ) (page : Page) (image bytes : List ℕ) (pages : List Page)
@@ -32,11 +32,11 @@ WritesPages =
     → ShowsPages shape pages bytes
     → ShowsPages shape (with_page number page pages) (written (number * shape.size) image bytes)
 
--- the shape of the file
+-- The shape of the file.
 abbrev pub shape_at : ℕ → Shape
 shape_at reach = shape_of reach fresh_header
 
--- within the file the bytes of a page are those between its ends
+-- Within the file the bytes of a page are those between its ends.
 whole_page : (size count number : ℕ) (bytes : List ℕ) → length bytes ≡ size * count → number < count → page_bytes size bytes number ≡ slice_range bytes (number * size) ((number + 1) * size)
 whole_page size count number bytes long within =
     let behind : size * (number + 1) ≤ size * count = mul-le-mul_left size (omega arith) in
@@ -59,7 +59,7 @@ module _ (reach : ℕ) (bytes : List ℕ) (fresh : IsFreshFile bytes) where
   pub fresh_pages : ShowsPages (shape_at reach) (pages_of fresh_small) bytes
   fresh_pages = record { length_is = fresh.size; each = fresh_page }
 
--- the page has this number, and a data page is of relation 0
+-- The page has this number, and a data page is of relation 0.
 abbrev IsPlaced : ℕ → Page → Type 0
 IsPlaced number (kind.Header header) = number ≡ 0
 IsPlaced number (kind.Inventory inventory) = inventory.page ≡ number
@@ -71,23 +71,23 @@ IsPlaced number kind.Blank = ⊥
 same_is : (number : ℕ) → (number == number) ≡ true
 same_is number = grind (arith, nat_tests)
 
--- the image of a page shows it under its number
+-- The image of a page shows it under its number.
 IsImage-shows : (reach number : ℕ) (page : Page) (image : PageImage) → IsPlaced number page → IsImage page image → (image.page ≡ number) × ShowsPage (shape_at reach) number image.bytes page
 IsImage-shows reach number (kind.Header header) image placed is = (is.0 ∙ sym placed, record { spelled = is.1; stands = rw placed refl })
 IsImage-shows reach number (kind.Inventory inventory) image placed is = (is.0 ∙ placed, record { spelled = is.1; stands = rw placed (same_is number) })
 IsImage-shows reach number (kind.Tip tip) image placed is = (is.0 ∙ placed, record { spelled = is.1; stands = rw placed (same_is number) })
 IsImage-shows reach number (kind.Pointer pointer) image placed is = (is.0 ∙ placed, record { spelled = is.1; stands = rw placed (same_is number) })
-IsImage-shows reach number (kind.Data held) image placed is = (is.0 ∙ placed.0, record { spelled = subst (λ n. SpellsData 1024 (value_length (shape_at reach) n) held image.bytes) (sym placed.1) is.1; stands = rw placed.0 (same_is number) })
+IsImage-shows reach number (kind.Data held) image placed is = (is.0 ∙ placed.0, record { spelled = subst (λ n. SpellsData 1024 (listed_length (shape_at reach) n) held image.bytes) (sym placed.1) is.1; stands = rw placed.0 (same_is number) })
 IsImage-shows reach number kind.Blank image placed is = absurd is
 
 module _ (reach : ℕ) (writes : WritesPages) where
-  -- the write of one image
+  -- The write of one image.
   put : (number : ℕ) (page : Page) (image : PageImage) (pages : List Page) (bytes : List ℕ) → IsPlaced number page → IsImage page image → ShowsPages (shape_at reach) pages bytes → ShowsPages (shape_at reach) (with_page number page pages) (written (image.page * 1024) image.bytes bytes)
   put number page image pages bytes placed is before =
       let shows : (image.page ≡ number) × ShowsPage (shape_at reach) number image.bytes page = IsImage-shows reach number page image placed is in
       subst (λ n. ShowsPages (shape_at reach) (with_page number page pages) (written (n * 1024) image.bytes bytes)) (sym shows.0) (writes (shape_at reach) number page image.bytes bytes pages shows.1 before)
 
-  -- the pages after each write of a commit, by the images that were written
+  -- The pages after each write of a commit, by the images that were written.
   module _ (bytes : List ℕ) (before : ShowsPages (shape_at reach) (pages_of fresh_small) bytes) (header : PageImage) (is_header : IsImage (kind.Header begun_header) header) where
     pub begun_pages : ShowsPages (shape_at reach) (pages_of begun_small) (bytes_after (header ∷ []) bytes)
     begun_pages = put 0 (kind.Header begun_header) header (pages_of fresh_small) bytes refl is_header before

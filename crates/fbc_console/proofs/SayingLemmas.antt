@@ -16,11 +16,11 @@ use Rattle.fbc_console.specs.Transaction.{inserted, answer_to, answer_line, step
 use Rattle.fbc_console.specs.Committing.{IsCommitted}
 use Rattle.fbc_console.specs.Saying.{IsSaid, IsOpeningSaid, AreStepsSaid, IsFrontSaid, IsTransactionSaid, IsCommitSaid}
 
--- one text and then another
+-- One text and then another.
 pub takes_both : (a b c : List ℕ → Type 0) (x y : List ℕ) → SinkTakes a b x → SinkTakes b c y → SinkTakes a c (x ++ y)
 takes_both a b c x y first next text had = subst c (append_assoc text x y) (next (text ++ x) (first text had))
 
--- one text and then a first part of another
+-- One text and then a first part of another.
 pub takes_some : (a b c : List ℕ → Type 0) (x y : List ℕ) → SinkTakes a b x → SinkTakesSome b c y → SinkTakesSome a c (x ++ y)
 takes_some a b c x y first next text had = go (next (text ++ x) (first text had))
   where
@@ -28,14 +28,14 @@ takes_some a b c x y first next text had = go (next (text ++ x) (first text had)
     go (n, within, has) =
         (length x + n, grind (arith, common_steps, within), subst c (append_assoc text x (take n y) ∙ ap (λ z. text ++ z) (sym (take-append-add x y n))) has)
 
--- a first part of a text is a first part of a longer one
+-- A first part of a text is a first part of a longer one.
 pub some_longer : (a c : List ℕ → Type 0) (x y : List ℕ) → SinkTakesSome a c x → SinkTakesSome a c (x ++ y)
 some_longer a c x y some text had = go (some text had)
   where
     go : ((n : ℕ) × (n ≤ length x) × c (text ++ take n x)) → (n : ℕ) × (n ≤ length (x ++ y)) × c (text ++ take n (x ++ y))
     go (n, within, has) = (n, grind (arith, common_steps, within), subst c (ap (λ z. text ++ z) (sym (take-append-le n x y within))) has)
 
--- nothing more
+-- Nothing more.
 pub takes_none : (a b c : List ℕ → Type 0) (x : List ℕ) → SinkTakes a b x → SinkTakes b c [] → SinkTakes a c x
 takes_none a b c x first next = subst (λ z. SinkTakes a c z) (append-nil x) (takes_both a b c x [] first next)
 
@@ -50,7 +50,7 @@ opening_cut a c status.SinkFault said = some_longer a c (answer_line 1 answer.Ok
 opening_cut a c status.OutOfMemory said = inl said
 opening_cut a c _ said = said
 
--- the lines of one step more
+-- The lines of one step more.
 step_lines-next : (steps : List Step) (i : ℕ) (next : Step) → i < length steps → step_lines (reverse (take (i + 1) steps)) ≡ step_lines (reverse (take i steps)) ++ answer_line (i + 3) (answer_to (inserted (reverse (take i steps))) (slice_index_or steps i next))
 step_lines-next steps i next within =
     let e : reverse (take (i + 1) steps) ≡ slice_index_or steps i next ∷ reverse (take i steps) = grind (arith, common_steps) in
@@ -68,7 +68,7 @@ steps_cut a b c steps i next status.OutOfMemory within first said =
     record { count = i; within = omega (arith, within); taken = takes_none a b c (step_lines (reverse (take i steps))) first said }
 steps_cut a b c steps i next _ within first said = said
 
--- after the opening nothing is told of the steps
+-- After the opening nothing is told of the steps.
 told_none : (steps : List Step) → IsTold steps (lines_before_commit [])
 told_none steps = stepped 0 (omega arith)
 
@@ -92,7 +92,7 @@ front_cut a c steps status.OutOfMemory (inl said) = record { text = []; told = n
 front_cut a c steps status.OutOfMemory (inr said) = record { text = answer_line 1 answer.Ok; told = attached; taken = said }
 front_cut a c steps _ said = said
 
--- all statements but commit are told before it
+-- All statements but commit are told before it.
 told_front : (steps : List Step) → IsTold steps (lines_before_commit steps)
 told_front steps = subst (λ z. IsTold steps (lines_before_commit z)) (take-length steps) (stepped (length steps) (omega arith))
 
@@ -110,15 +110,15 @@ transaction_cut a c steps status.OutOfMemory before now said = said
 transaction_cut a c steps status.DeviceFault before now said = let no : ⊥ = said in absurd no
 transaction_cut a c steps _ before now said = said
 
--- before anything was written
+-- Before anything was written.
 pub transaction_none : (a : List ℕ → Type 0) (steps : List Step) (before now : Option (List ℕ)) → IsTransactionSaid (Err status.OutOfMemory) a a steps before now
 transaction_none a steps before now = record { text = []; told = nothing; taken = λ text had. subst a (sym (append-nil text)) had }
 
--- one step more counts by itself
+-- One step more counts by itself.
 count_by-cons : (first : Step) (rest : List Step) → count_by is_insert (first ∷ rest) ≡ count_by is_insert (first ∷ []) + count_by is_insert rest
 count_by-cons first rest = sum_by-append (λ x. cond (is_insert x) 1 0) (first ∷ []) rest
 
--- steps insert as many values as there are inserts among them
+-- Steps insert as many values as there are inserts among them.
 pub length-inserted : (steps : List Step) → length (inserted steps) ≡ count_by is_insert steps
 length-inserted [] = refl
 length-inserted (step.Insert text ∷ earlier) =
@@ -138,7 +138,7 @@ count_by-reverse (first ∷ rest) =
     let flip : count_by is_insert (reverse rest) + count_by is_insert (first ∷ []) ≡ count_by is_insert (first ∷ []) + count_by is_insert rest = omega (arith, before) in
     turned ∙ parts ∙ flip ∙ sym (count_by-cons first rest)
 
--- an insert has room while the inserts of all steps are few
+-- An insert has room while the inserts of all steps are few.
 pub has_room : (steps : List Step) (i : ℕ) (next : Step) → i < length steps → count_by is_insert steps ≤ 45 → is_insert (slice_index_or steps i next) ≡ true → length (inserted (reverse (take i steps))) < 45
 has_room steps i next within few inserts =
     let values : length (inserted (reverse (take i steps))) ≡ count_by is_insert (reverse (take i steps)) = length-inserted (reverse (take i steps)) in

@@ -18,7 +18,7 @@ use Rattle.fbc_kinds.specs.Sound.{IsSound}
 use Rattle.fbc_files.specs.Pages.{listed_view}
 use Rattle.fbc_console.specs.FreshFile.{fresh_relation, cells_of, filled_data, inserted_cell}
 
--- what such a file holds: the next transaction number, the marks, the states, the slots, and the pages from page 4 on
+-- What such a file holds: the next transaction number, the marks, the states, the slots, and the pages from page 4 on.
 pub record Small : Type 0 where
   pub next : ℕ
   pub taken : List Bool
@@ -29,7 +29,7 @@ pub record Small : Type 0 where
 abbrev pub header_with : ℕ → Header
 header_with next = record { size = 1024; next = next; inventories = 1; oldest = 0; relations = fresh_relation ∷ []; tips = 2 ∷ [] }
 
--- its pages behind the header, and all of them
+-- Its pages behind the header, and all of them.
 abbrev pub tail_of : Small → List Page
 tail_of s =
     kind.Inventory (record { page = 1; sequence = 0; taken = s.taken })
@@ -43,22 +43,22 @@ pages_of s = kind.Header (header_with s.next) ∷ tail_of s
 abbrev pub view_of : Small → View
 view_of s = listed_view (pages_of s)
 
--- what a slot names
+-- What a slot names.
 abbrev pub named_at : List ℕ → ℕ → Option ℕ
 named_at slots slot = option_and_then unless_zero (slice_get slots slot)
 
--- there is no page 4, or it holds values of transaction 1, which has begun
+-- There is no page 4, or it holds values of transaction 1, which has begun.
 pub data LastPage (s : Small) : Type 0 where
   missing : s.last ≡ [] → LastPage s
   holding : (values : List (List ℕ)) → s.last ≡ kind.Data (filled_data values) ∷ [] → 1 < s.next → LastPage s
 
--- no slot names a page
+-- No slot names a page.
 pub record HasNoData (s : Small) (values : List (List ℕ)) (count : ℕ) : Type 0 where
   pub unnamed : (slot : ℕ) → named_at s.slots slot ≡ None
   pub no_values : values ≡ []
   pub four : count ≡ 4
 
--- page 4 holds values, the first slot alone names it, and it is taken
+-- Page 4 holds values, the first slot alone names it, and it is taken.
 pub record HasData (s : Small) (values : List (List ℕ)) (count : ℕ) : Type 0 where
   pub held : s.last ≡ kind.Data (filled_data values) ∷ []
   pub named : named_at s.slots 0 ≡ Some 4
@@ -67,14 +67,14 @@ pub record HasData (s : Small) (values : List (List ℕ)) (count : ℕ) : Type 0
   pub room : length values ≤ 45
   pub five : count ≡ 5
 
--- a small file whose pages in use are the first so many, and whose rows have these values
+-- A small file whose pages in use are the first so many, and whose rows have these values.
 pub record IsSmall (s : Small) (values : List (List ℕ)) (count : ℕ) : Type 0 where
   pub marks : (page : ℕ) → page < 4 → slice_get s.taken page ≡ Some true
   pub begun_only : (place : ℕ) (state : State) → slice_get s.states place ≡ Some state → is_active_state state ≡ false → place < s.next
   pub last_page : LastPage s
   pub data_page : HasNoData s values count ⊎ HasData s values count
 
--- the role that the page of a number has
+-- The role that the page of a number has.
 abbrev pub role_at : ℕ → Role
 role_at zero = HeaderRole
 role_at (suc zero) = InventoryRole 0
@@ -82,12 +82,12 @@ role_at (suc (suc zero)) = TipRole 0
 role_at (suc (suc (suc zero))) = PointerRole 0 0
 role_at (suc (suc (suc (suc page)))) = DataRole 0 0
 
--- a page in use has its own role
+-- A page in use has its own role.
 pub record IsUsed (count : ℕ) (role : Role) (page : ℕ) : Type 0 where
   pub role_is : role ≡ role_at page
   pub within : page < count
 
--- a cell holds nothing, or a version of number 1 without a back version
+-- A cell holds nothing, or a version of number 1 without a back version.
 pub record IsPlain (version : Cell) : Type 0 where
   pub no_back : version.back_page ≡ 0
   pub first : is_empty version.flag ≡ false → version.number ≡ 1
@@ -105,7 +105,7 @@ plain_at cells all i version is = subst IsPlain (get_or_from_slice_get cells i v
 not_below_one : (k : ℕ) → nat_lt (suc k) 1 ≡ false
 not_below_one k = grind (arith, nat_tests)
 
--- a data page that is named
+-- A data page that is named.
 pub record IsNamed (count q slot page : ℕ) : Type 0 where
   pub first_pointer : q ≡ 0
   pub first_slot : slot ≡ 0

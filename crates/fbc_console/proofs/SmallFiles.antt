@@ -9,49 +9,50 @@ use Rattle.fbc_kinds.specs.View.{unless_zero, is_active_state}
 use Rattle.fbc_files.specs.NewPages.{taken_first, active_states, empty_slots}
 use Rattle.fbc_console.specs.FreshFile.{filled_data}
 use Rattle.fbc_console.proofs.SmallFile.{Small, named_at, HasNoData, IsSmall, missing, holding}
-use Rattle.fbc_console.proofs.Fits.{slice_get-taken_first, slice_get-set_true, length-active_states, length-empty_slots, length-taken_first}
+use Rattle.fbc_files.proofs.NewFits.{first_taken, length-active_states, length-empty_slots, length-taken_first}
+use Rattle.fbc_console.proofs.Fits.{slice_get-set_true}
 
--- the fresh file
+-- The fresh file.
 abbrev pub fresh_small : Small
 fresh_small = record { next = 1; taken = taken_first 4 8060; states = active_states 4032; slots = empty_slots 252; last = [] }
 
--- the file after the write of the header
+-- The file after the write of the header.
 abbrev pub begun_small : Small
 begun_small = record fresh_small { next = 2 }
 
--- the file after a transaction without inserts
+-- The file after a transaction without inserts.
 abbrev pub quiet_small : Small
 quiet_small = record begun_small { states = slice_set (active_states 4032) 1 Committed }
 
--- the file after the write of the page inventory too
+-- The file after the write of the page inventory too.
 abbrev pub taken_small : Small
 taken_small = record begun_small { taken = slice_set (taken_first 4 8060) 4 true }
 
--- the file after the write of the data page too
+-- The file after the write of the data page too.
 abbrev pub held_small : List (List ℕ) → Small
 held_small values = record taken_small { last = kind.Data (filled_data values) ∷ [] }
 
--- the file after the write of the pointer page too
+-- The file after the write of the pointer page too.
 abbrev pub named_small : List (List ℕ) → Small
 named_small values = record (held_small values) { slots = slice_set (empty_slots 252) 0 4 }
 
--- the file after a transaction with inserts
+-- The file after a transaction with inserts.
 abbrev pub filled_small : List (List ℕ) → Small
 filled_small values = record (named_small values) { states = slice_set (active_states 4032) 1 Committed }
 
--- what a list of so many equal elements has at a place
+-- What a list of so many equal elements has at a place.
 got : {X : Type 0} (count : ℕ) (x y : X) (i : ℕ) → slice_get (replicate count x) i ≡ Some y → x ≡ y
 got zero x y i is = let no : ⊥ = cc in absurd no
 got (suc count) x y zero is = cc
 got (suc count) x y (suc i) is = got count x y i is
 
--- what it has within it
+-- What it has within it.
 within : {X : Type 0} (count : ℕ) (x : X) (i : ℕ) → i < count → slice_get (replicate count x) i ≡ Some x
 within zero x i low = let no : ⊥ = omega (arith, low) in absurd no
 within (suc count) x zero low = refl
 within (suc count) x (suc i) low = within count x i (omega (arith, low))
 
--- an element that was put in a place stands there, and nowhere else
+-- An element that was put in a place stands there, and nowhere else.
 put_there : {X : Type 0} (xs : List X) (i : ℕ) (x : X) → i < length xs → slice_get (slice_set xs i x) i ≡ Some x
 put_there [] i x low = let no : ⊥ = omega (arith, low) in absurd no
 put_there (y ∷ ys) zero x low = refl
@@ -81,7 +82,7 @@ committed_only count (suc zero) state is over = lit< tt
 committed_only count (suc (suc place)) state is over =
     absurd (active_only count (suc (suc place)) state (sym (put_elsewhere (active_states count) 1 (suc (suc place)) Committed (λ e. omega (arith, e))) ∙ is) over)
 
--- the state of transaction 1, once it is committed, and of the next one
+-- The state of transaction 1, once it is committed, and of the next one.
 pub committed_at : (count : ℕ) → 2 < count → slice_get (slice_set (active_states count) 1 Committed) 1 ≡ Some Committed
 committed_at count more = put_there (active_states count) 1 Committed (omega (arith, length-active_states count, more))
 
@@ -107,7 +108,7 @@ marked : (taken free : ℕ) → taken < taken + free → slice_get (slice_set (t
 marked taken free some = put_there (taken_first taken free) taken true (omega (arith, length-taken_first taken free, some))
 
 marks_fresh : (page : ℕ) → page < 4 → slice_get (taken_first 4 8060) page ≡ Some true
-marks_fresh page low = slice_get-taken_first 4 8060 page low
+marks_fresh page low = first_taken 4 8060 page low
 
 marks_taken : (page : ℕ) → page < 4 → slice_get (slice_set (taken_first 4 8060) 4 true) page ≡ Some true
 marks_taken page low = slice_get-set_true (taken_first 4 8060) 4 page (marks_fresh page low)
@@ -118,7 +119,7 @@ none_over next place state is over = absurd (active_only 4032 place state is ove
 one_over : (place : ℕ) (state : State) → slice_get (slice_set (active_states 4032) 1 Committed) place ≡ Some state → is_active_state state ≡ false → place < 2
 one_over place state is over = committed_only 4032 place state is over
 
--- a small file whose slots are the fresh ones
+-- A small file whose slots are the fresh ones.
 no_data : (s : Small) → s.slots ≡ empty_slots 252 → HasNoData s [] 4
 no_data s slots = record { unnamed = λ slot. ap (λ held. named_at held slot) slots ∙ unnamed 252 slot; no_values = refl; four = refl }
 

@@ -21,7 +21,7 @@ use Rattle.fbc_console.specs.FreshFile.{cells_of, inserted_cell}
 use Rattle.fbc_console.proofs.PlayedMachine.{made_in, rows_of, machine_with}
 use Rattle.fbc_console.proofs.SmallFile.{Small, view_of, HasNoData, HasData, IsSmall}
 
--- behind the values the cells are empty, and so no row stands there
+-- Behind the values the cells are empty, and so no row stands there.
 empty_made : (view : View) (count row : ℕ) → map made_of (chain_from view (slice_get (replicate count empty_cell) row)) ≡ []
 empty_made view zero row = refl
 empty_made view (suc count) zero = refl
@@ -36,7 +36,7 @@ cell_made : (view : View) (values : List (List ℕ)) (row : ℕ) → map made_of
 unfolding cells_of
 cell_made view values row = cells_made view values (45 - length values) row
 
--- the cell that a slot's page has at a place
+-- The cell that a slot's page has at a place.
 abbrev cell_by : Small → ℕ → ℕ → ℕ → Option Cell
 cell_by s sequence slot cell =
     option_and_then (λ (page : ℕ). cell_at (view_of s) page cell)
@@ -82,22 +82,22 @@ module _ (s : Small) (values : List (List ℕ)) (count : ℕ) where
   rows_are (inl none) (suc relation) row = refl
   rows_are (inr some) (suc relation) row = refl
 
--- a transaction whose owner is gone
+-- A transaction whose owner is gone.
 abbrev pub settled_as : ℕ → Standing → Transaction
 settled_as number now = record { number = number; owner = 0; standing = now; snapshot = [] }
 
 abbrev settled_by : ℕ → Option State → Transaction
 settled_by number found = settled_as number (if is_committed_state (unwrap_or found state.Active) then standing.Committed else standing.RolledBack)
 
--- the machine of a file with these values, in which transaction 1 is over and 2 has not begun
+-- The machine of a file with these values, in which transaction 1 is over and 2 has not begun.
 abbrev file_machine : Standing → List (List ℕ) → Machine
 file_machine now values = record { rows = rows_of values; transactions = settled_as 1 now ∷ settled_as 2 standing.RolledBack ∷ [] }
 
--- the versions of a row that are not rolled back, by the transactions
+-- The versions of a row that are not rolled back, by the transactions.
 abbrev standing_in : List Transaction → List Made → List Version
 standing_in transactions made = filter_map (λ (v : Made). option_and_then (numbered v.value) (slice_get transactions v.maker)) made
 
--- the same versions are not rolled back where the same transaction is committed
+-- The same versions are not rolled back where the same transaction is committed.
 versions_same : (values : List (List ℕ)) (relation row : ℕ) → standing_versions (file_machine standing.Committed values) relation row ≡ standing_versions (machine_with standing.Committed values) relation row
 versions_same values zero row = found_same (slice_get values row)
   where
@@ -106,7 +106,7 @@ versions_same values zero row = found_same (slice_get values row)
     found_same (Some value) = refl
 versions_same values (suc relation) row = refl
 
--- no version stands where the transaction is rolled back
+-- No version stands where the transaction is rolled back.
 none_standing : (values : List (List ℕ)) (relation row : ℕ) → standing_versions (file_machine standing.RolledBack values) relation row ≡ []
 none_standing values zero row = found_none (slice_get values row)
   where
@@ -153,7 +153,7 @@ nothing_same = record {
     no_versions zero row = refl
     no_versions (suc relation) row = refl
 
--- the machine that a small file means, by its next transaction number and the states of the two first ones
+-- The machine that a small file means, by its next transaction number and the states of the two first ones.
 module _ (s : Small) (values : List (List ℕ)) (count : ℕ) (small : IsSmall s values count) where
   meaning_is : (transactions : List Transaction) → transactions_up_to (view_of s) [] s.next ≡ transactions → meaning_of (view_of s) ≡ record { rows = rows_of values; transactions = transactions }
   meaning_is transactions are = λ i. record { rows = λ relation row. rows_are s values count small.data_page relation row i; transactions = are i }
@@ -164,16 +164,16 @@ module _ (s : Small) (values : List (List ℕ)) (count : ℕ) (small : IsSmall s
       ∙ ap (λ (t : Transaction). t ∷ settled (view_of s) 2 ∷ []) (ap (settled_by 1) one)
       ∙ ap (λ (t : Transaction). settled_by 1 (Some found) ∷ t ∷ []) (ap (settled_by 2) two)
 
-  -- where transaction 1 is committed, that is the machine with its values
+  -- Where transaction 1 is committed, that is the machine with its values.
   pub means_committed : s.next ≡ 2 → slice_get s.states 1 ≡ Some state.Committed → slice_get s.states 2 ≡ Some state.Active → MeanTheSame (meaning_of (view_of s)) (machine_with standing.Committed values)
   means_committed next one two =
       subst (λ m. MeanTheSame m (machine_with standing.Committed values)) (sym (meaning_is _ (two_transactions state.Committed next one two))) (committed_same values)
 
-  -- where it has begun and is not committed, that is the machine without rows
+  -- Where it has begun and is not committed, that is the machine without rows.
   pub means_rolled_back : s.next ≡ 2 → slice_get s.states 1 ≡ Some state.Active → slice_get s.states 2 ≡ Some state.Active → MeanTheSame (meaning_of (view_of s)) empty
   means_rolled_back next one two = subst (λ m. MeanTheSame m empty) (sym (meaning_is _ (two_transactions state.Active next one two))) (rolled_back_same values)
 
--- where nothing has begun, that is the machine without rows
+-- Where nothing has begun, that is the machine without rows.
 pub means_nothing : (s : Small) (count : ℕ) → IsSmall s [] count → s.next ≡ 1 → slice_get s.states 1 ≡ Some state.Active → MeanTheSame (meaning_of (view_of s)) empty
 means_nothing s count small next one =
     let transactions : transactions_up_to (view_of s) [] s.next ≡ settled_as 1 standing.RolledBack ∷ [] =

@@ -17,19 +17,19 @@ use Rattle.fbc_console.proofs.CellLemmas.{values_in-cells_of, length-cells_of, s
 cells_are : (s : Inside) → IsStore s → s.data.cells ≡ cells_of 45 (values_of s)
 cells_are s is = ap (λ page. page.cells) is.data_is
 
--- there are 45 cells
+-- There are 45 cells.
 pub length-cells : (s : Inside) → IsStore s → length s.data.cells ≡ 45
 length-cells s is =
     ap length (cells_are s is) ∙ length-cells_of 45 (values_of s) (omega (arith, is.rows_are, is.room))
 
--- the cells after an insert hold the value too
+-- The cells after an insert hold the value too.
 pub cells-inserted : (s : Inside) (value : List ℕ) → IsStore s → s.rows < 45 → slice_set s.data.cells s.rows (inserted_cell value) ≡ cells_of 45 (values_of s ++ value ∷ [])
 cells-inserted s value is room =
     ap (λ cells. slice_set cells s.rows (inserted_cell value)) (cells_are s is)
     ∙ ap (λ row. slice_set (cells_of 45 (values_of s)) row (inserted_cell value)) (sym is.rows_are)
     ∙ set-cells_of 45 (values_of s) value (omega (arith, is.rows_are, room))
 
--- and they hold it as the last one
+-- And they hold it as the last one.
 pub values-inserted : (s : Inside) (value : List ℕ) → IsStore s → s.rows < 45 → values_in (s.rows + 1) (slice_set s.data.cells s.rows (inserted_cell value)) ≡ values_of s ++ value ∷ []
 values-inserted s value is room =
     ap (values_in (s.rows + 1)) (cells-inserted s value is room)
@@ -39,7 +39,7 @@ values-inserted s value is room =
     rows-inserted : (s : Inside) (value : List ℕ) → IsStore s → s.rows + 1 ≡ length (values_of s ++ value ∷ [])
     rows-inserted s value is = ap (λ rows. rows + 1) (sym is.rows_are) ∙ sym (length-append (values_of s) (value ∷ []))
 
--- a store after an insert is a store
+-- A store after an insert is a store.
 pub IsStore-inserted : (s : Inside) (value : List ℕ) (cells : List Cell) → cells ≡ slice_set s.data.cells s.rows (inserted_cell value) → IsStore s → s.rows < 45 → IsShortValue value → IsStore (record s { «data» = record s.data { cells = cells }; rows = s.rows + 1 })
 IsStore-inserted s value cells set is room short = record {
   header_is = is.header_is;
@@ -60,11 +60,11 @@ IsStore-inserted s value cells set is room short = record {
       (All-append IsShortValue (values_of s) (value ∷ []) is.short (All-replicate IsShortValue 1 value short));
 }
 
--- a store with fewer than 45 values has room
+-- A store with fewer than 45 values has room.
 pub has_room : (s : Inside) (values : List (List ℕ)) → values_of s ≡ values → length values < 45 → IsStore s → s.rows < 45
 has_room s values are few is = let e : s.rows ≡ length values = sym is.rows_are ∙ ap length are in omega (arith, e, few)
 
--- the value of a row
+-- The value of a row.
 pub slice_get-values_of : (s : Inside) (row : ℕ) (cell : Cell) → IsStore s → row < s.rows → slice_get (values_of s) row ≡ Some (slice_index_or s.data.cells row cell).value
 slice_get-values_of s row cell is within =
     slice_get-map (λ held. held.value) (take s.rows s.data.cells) row
@@ -73,14 +73,14 @@ slice_get-values_of s row cell is within =
     front : row < length (take s.rows s.data.cells)
     front = omega (arith, length-take-le s.rows s.data.cells (omega (arith, length-cells s is, is.room)), within)
 
--- past the rows there is nothing
+-- Past the rows there is nothing.
 pub slice_get-past : (s : Inside) (row : ℕ) → IsStore s → s.rows ≤ row → slice_get (values_of s) row ≡ None
 slice_get-past s row is past = slice_get_past (values_of s) row (omega (arith, is.rows_are, past))
 
--- the data page is within its limits
+-- The data page is within its limits.
 pub data_fits : (s : Inside) → IsStore s → IsData 1024 10 s.data
 data_fits s is = subst (IsData 1024 10) (sym is.data_is) (IsData-filled (values_of s) (omega (arith, is.rows_are, is.room)) is.short)
 
--- a store with a row has a value
+-- A store with a row has a value.
 pub has_values : (s : Inside) (values : List (List ℕ)) → values_of s ≡ values → IsStore s → 0 < s.rows → 0 < length values
 has_values s values are is some = let e : s.rows ≡ length values = sym is.rows_are ∙ ap length are in omega (arith, e, some)

@@ -11,47 +11,47 @@ use Rattle.fbc_console.specs.declared.statuses.Status.{Status}
 use Rattle.fbc_console.specs.declared.statuses.Status.TheVariants as status
 use Rattle.fbc_console.specs.Script.{HasReadAll, IsTooLong}
 
--- a text spells a script that asks for this
+-- A text spells a script that asks for this.
 pub record SpellsAsked (text : List ℕ) (asked : SingleTransaction) : Type 0 where
   pub script : Script
   pub spelled : IsScript false text script
   pub asks : Asks asked script
 
--- a text spells a script that is neither empty nor one transaction
+-- A text spells a script that is neither empty nor one transaction.
 pub record SpellsOther (text : List ℕ) : Type 0 where
   pub script : Script
   pub spelled : IsScript false text script
   pub other : IsSingleTransaction script → ⊥
 
--- why a text asks for nothing that can be played: it is no script, and this is its first faulty line and the cause, or it is another script
+-- Why a text asks for nothing that can be played: it is no script, and this is its first faulty line and the cause, or it is another script.
 abbrev pub WhyNotSpelled : Status → List ℕ → Type 0
 WhyNotSpelled (status.Script line why) text = first_script_fault false text ≡ Some (record { line = line; why = why })
 WhyNotSpelled status.Later text = SpellsOther text
 WhyNotSpelled status.OutOfMemory text = Unit {0}
 WhyNotSpelled _ text = ⊥
 
--- all that a source has left is within the limit and asks for this
+-- All that a source has left is within the limit and asks for this.
 pub record HasAsked (left : Option (List ℕ)) (asked : SingleTransaction) : Type 0 where
   pub text : List ℕ
   pub read : HasReadAll left text
   pub within : length text ≤ 4194304
   pub spelled : SpellsAsked text asked
 
--- all that a source has left is within the limit and asks for nothing that can be played
+-- All that a source has left is within the limit and asks for nothing that can be played.
 pub record HasRefused (left : Option (List ℕ)) (status : Status) : Type 0 where
   pub text : List ℕ
   pub read : HasReadAll left text
   pub within : length text ≤ 4194304
   pub why : WhyNotSpelled status text
 
--- why a source asks for nothing that can be played
+-- Why a source asks for nothing that can be played.
 abbrev pub WhyNotAsked : Status → Option (List ℕ) → Type 0
 WhyNotAsked status.SourceFault left = Unit {0}
 WhyNotAsked status.SourceLong left = IsTooLong left
 WhyNotAsked status.OutOfMemory left = Unit {0}
 WhyNotAsked status left = HasRefused left status
 
--- steps that can be played: their lines can be numbered, and their values have room in one page
+-- Steps that can be played: their lines can be numbered, and their values have room in one page.
 pub record ArePlayable (steps : List Step) : Type 0 where
   pub numbered : length steps < 4294967293
   pub short : AllByRecursion IsShort steps

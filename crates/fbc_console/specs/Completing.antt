@@ -13,7 +13,7 @@ use Rattle.fbc_command_line.specs.Commands.{SpellsCommand, SpellsPlay}
 use Rattle.fbc_console.specs.Images.{IsFreshFile}
 use Rattle.fbc_console.specs.Asking.{SpellsAsked}
 
--- the words are `play`, the file is the fresh file, and the source has a script within the limit that is empty or one transaction
+-- The words are `play`, the file is the fresh file, and the source has a script within the limit that is empty or one transaction.
 pub record IsPlainPlay (words : List (String Global)) (left file : Option (List ℕ)) : Type 0 where
   pub words_are : SpellsPlay words
   pub bytes : List ℕ
@@ -25,14 +25,14 @@ pub record IsPlainPlay (words : List (String Global)) (left file : Option (List 
   pub asked : SingleTransaction
   pub spelled : SpellsAsked text asked
 
--- the words are those of a new file, and nothing stands on the device
+-- The words are those of a new file, and nothing stands on the device.
 pub record IsPlainCreate (words : List (String Global)) (file : Option (List ℕ)) : Type 0 where
   pub size : ℕ
   pub relations : List NewRelation
   pub words_are : SpellsCommand words (command.Create size relations)
   pub file_is : file ≡ Some []
 
--- the words are those of a check, and the file is recognised
+-- The words are those of a check, and the file is recognised.
 pub record IsPlainCheck (words : List (String Global)) (file : Option (List ℕ)) : Type 0 where
   pub json : Bool
   pub words_are : SpellsCommand words (command.Validate json)
@@ -40,16 +40,16 @@ pub record IsPlainCheck (words : List (String Global)) (file : Option (List ℕ)
   pub file_is : file ≡ Some bytes
   pub recognised : broken_opening bytes ≡ None
 
--- of none of the three objects a count of faults rose
+-- Of none of the three objects a count of faults rose.
 pub record NothingFailed (device device_now source source_now sink sink_now : ℕ) : Type 0 where
   pub of_device : ¬ Rose device device_now
   pub of_source : ¬ Rose source source_now
   pub of_sink : ¬ Rose sink sink_now
 
--- a call was carried out, but for want of memory
+-- A call was carried out, but for want of memory.
 abbrev pub IsCompleted : Status → Type 0
 IsCompleted ended = (ended ≡ status.Ok) ⊎ (ended ≡ status.OutOfMemory)
 
--- the same of a check, which says whether there is damage
+-- The same of a check, which says whether there is damage.
 abbrev pub IsChecked : Status → Type 0
 IsChecked ended = (ended ≡ status.Damaged) ⊎ IsCompleted ended

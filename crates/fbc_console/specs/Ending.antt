@@ -20,7 +20,7 @@ use Rattle.fbc_console.specs.Committing.{IsCommitted, Stands}
 use Rattle.fbc_console.specs.PlayTheorem.{IsPlayOf, IsPartOfPlay}
 use Rattle.fbc_console.specs.Transaction.{inserted, lines_before_commit, transcript, IsTold}
 
--- the lines that were told of a transaction: all of them where it is done, all but the last where the device failed, and the first ones where the sink failed or there was no memory. The line that answers commit is told only where the commit stands
+-- The lines that were told of a transaction: all of them where it is done, all but the last where the device failed, and the first ones where the sink failed or there was no memory. The line that answers commit is told only where the commit stands.
 abbrev pub IsTransactionTold : Outcome → List Step → List ℕ → Option (List ℕ) → Option (List ℕ) → Type 0
 IsTransactionTold (Ok done) steps told before now = told ≡ transcript steps
 IsTransactionTold (Err status.DeviceFault) steps told before now = told ≡ lines_before_commit steps
@@ -28,29 +28,29 @@ IsTransactionTold (Err status.SinkFault) steps told before now = IsTold steps to
 IsTransactionTold (Err status.OutOfMemory) steps told before now = IsTold steps told
 IsTransactionTold (Err _) steps told before now = ⊥
 
--- what was told and what stands is the play of the one-thread machine, or where it did not come to its end a part of it
+-- What was told and what stands is the play of the one-thread machine, or where it did not come to its end a part of it.
 abbrev pub IsMachinePlay : ℕ → Outcome → SingleTransaction → List ℕ → Option (List ℕ) → Type 0
 IsMachinePlay reach (Ok done) asked told now = IsPlayOf reach asked told now
 IsMachinePlay reach (Err ended) (Steps steps) told now = IsPartOfPlay reach steps told now
 IsMachinePlay reach (Err ended) Absent told now = ⊥
 
--- a transaction of these steps was played over the fresh file: these lines were told, and these pages stand
+-- A transaction of these steps was played over the fresh file: these lines were told, and these pages stand.
 pub record IsTransactionPlayed (outcome : Outcome) (steps : List Step) (told : List ℕ) (before now : Option (List ℕ)) : Type 0 where
   pub lines : IsTransactionTold outcome steps told before now
   pub stands : Stands outcome before now (inserted (reverse steps))
 
--- an empty script tells nothing and leaves the file
+-- An empty script tells nothing and leaves the file.
 pub record IsNothingPlayed (outcome : Outcome) (told : List ℕ) (before now : Option (List ℕ)) : Type 0 where
   pub well : outcome ≡ Ok tt
   pub silent : told ≡ []
   pub same : now ≡ before
 
--- what a script asks for was played
+-- What a script asks for was played.
 abbrev pub IsPlayed : Outcome → SingleTransaction → List ℕ → Option (List ℕ) → Option (List ℕ) → Type 0
 IsPlayed outcome Absent told before now = IsNothingPlayed outcome told before now
 IsPlayed outcome (Steps steps) told before now = IsTransactionPlayed outcome steps told before now
 
--- why no script was played over a file: it is refused; or it is recognised, and the source gives none that can be played; or it is another file than the fresh one
+-- Why no script was played over a file: it is refused; or it is recognised, and the source gives none that can be played; or it is another file than the fresh one.
 pub data WhyNotPlayed (left file : Option (List ℕ)) (ended : Status) : Type 0 where
   fault : ended ≡ status.DeviceFault → WhyNotPlayed left file ended
   memory : ended ≡ status.OutOfMemory → WhyNotPlayed left file ended
@@ -58,17 +58,17 @@ pub data WhyNotPlayed (left file : Option (List ℕ)) (ended : Status) : Type 0 
   unasked : IsRecognised file → WhyNotAsked ended left → WhyNotPlayed left file ended
   other : (asked : SingleTransaction) → IsRecognised file → HasAsked left asked → IsOtherDevice file → ended ≡ status.Later → WhyNotPlayed left file ended
 
--- the fresh file was played over: it was what the script asks for, and what the machine does, however far a device reaches
+-- The fresh file was played over: it was what the script asks for, and what the machine does, however far a device reaches.
 pub record IsFreshPlayed (outcome : Outcome) (asked : SingleTransaction) (told : List ℕ) (before now : Option (List ℕ)) : Type 0 where
   pub is : IsPlayed outcome asked told before now
   pub machine : (reach : ℕ) → IsMachinePlay reach outcome asked told now
 
--- `play` was carried out: nothing was played, told or changed, or what the script asks for was played over the fresh file
+-- `play` was carried out: nothing was played, told or changed, or what the script asks for was played over the fresh file.
 pub data IsPlayDone (left before now : Option (List ℕ)) (outcome : Outcome) (told : List ℕ) : Type 0 where
   stopped : (ended : Status) → outcome ≡ Err ended → WhyNotPlayed left before ended → told ≡ [] → now ≡ before → IsPlayDone left before now outcome told
   played : (asked : SingleTransaction) → IsFreshDevice before → HasAsked left asked → IsFreshPlayed outcome asked told before now → IsPlayDone left before now outcome told
 
--- the words were carried out over a file on a device of this reach, or they are no command
+-- The words were carried out over a file on a device of this reach, or they are no command.
 pub data IsCarriedOut (reach : ℕ) (words : List (String Global)) (left before now : Option (List ℕ)) (outcome : Outcome) (told : List ℕ) : Type 0 where
   no_command : (IsCommandLine words → ⊥) → outcome ≡ Err status.Usage → told ≡ [] → now ≡ before → IsCarriedOut reach words left before now outcome told
   no_memory : outcome ≡ Err status.OutOfMemory → told ≡ [] → now ≡ before → IsCarriedOut reach words left before now outcome told
@@ -76,7 +76,7 @@ pub data IsCarriedOut (reach : ℕ) (words : List (String Global)) (left before 
   validate : (json : Bool) → SpellsCommand words (command.Validate json) → IsCheckDone json reach before now outcome told → IsCarriedOut reach words left before now outcome told
   play : SpellsCommand words command.Play → IsPlayDone left before now outcome told → IsCarriedOut reach words left before now outcome told
 
--- how a call of the console ends
+-- How a call of the console ends.
 pub record HasEnded (reach : ℕ) (words : List (String Global)) (left : Option (List ℕ)) (old new : List ℕ → Type 0) (before now : Option (List ℕ)) (status : Status) : Type 0 where
   pub outcome : Outcome
   pub told : List ℕ

@@ -1,4 +1,5 @@
 pub mod Asking
+pub mod Bytes
 pub mod Checking
 pub mod Closing
 pub mod Committing
@@ -11,7 +12,9 @@ pub mod Opening
 pub mod PlayTheorem
 pub mod Saying
 pub mod Script
+pub mod SoundFiles
 pub mod Statuses
 pub mod StoredPages
 pub mod Transaction
 pub mod Writes
+pub mod Writing

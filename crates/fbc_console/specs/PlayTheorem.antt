@@ -18,23 +18,23 @@ use Rattle.fbc_script.specs.declared.single.SingleTransaction.{SingleTransaction
 use Rattle.fbc_script.specs.declared.single.SingleTransaction.TheVariants.{Absent, Steps}
 use Rattle.fbc_console.specs.Transaction.{answer_line}
 
--- the commands of the steps that follow so many inserts, and of the commit behind them: an insert puts the row of
--- its number among the inserts
+-- The commands of the steps that follow so many inserts, and of the commit behind them: an insert puts the row of
+-- its number among the inserts.
 abbrev pub commands_after : ℕ → List Step → List Command
 commands_after inserts [] = command.Commit 1 ∷ []
 commands_after inserts (step.Insert text ∷ later) = command.Insert 1 0 inserts text ∷ commands_after (inserts + 1) later
 commands_after inserts (step.Read row ∷ later) = command.Read 1 0 row ∷ commands_after inserts later
 
--- the commands of a transaction with these steps: attachment 1 begins with number 1, and all steps are over
--- relation 0
+-- The commands of a transaction with these steps: attachment 1 begins with number 1, and all steps are over
+-- relation 0.
 abbrev pub commands_of : List Step → List Command
 commands_of steps = command.Begin 1 1 ∷ commands_after 0 steps
 
--- the machine after these steps of one transaction, where it began without rows
+-- The machine after these steps of one transaction, where it began without rows.
 abbrev pub machine_of : List Step → Machine
 machine_of steps = fold machine_step empty (commands_of steps)
 
--- the reply of the machine that an answer tells
+-- The reply of the machine that an answer tells.
 abbrev pub reply_of : Answer → Reply
 reply_of answer.Ok = reply.Ok
 reply_of (answer.Value value) = reply.Value value
@@ -42,55 +42,55 @@ reply_of answer.None = reply.None
 reply_of (answer.Row row) = reply.Row row
 reply_of (answer.Number number) = reply.Number number
 
--- the lines that tell answers, numbered from this line on
+-- The lines that tell answers, numbered from this line on.
 abbrev pub answer_lines : ℕ → List Answer → List ℕ
 answer_lines number [] = []
 answer_lines number (first ∷ later) = answer_line number first ++ answer_lines (number + 1) later
 
--- lines tell the machine's replies to the commands of these steps; before them the attach is answered, which is no
--- command
+-- Lines tell the machine's replies to the commands of these steps; before them the attach is answered, which is no
+-- command.
 pub record TellReplies (steps : List Step) (lines : List ℕ) : Type 0 where
   pub answers : List Answer
   pub run : IsRun empty (commands_of steps) (map reply_of answers) (machine_of steps)
   pub lines_are : lines ≡ answer_line 1 answer.Ok ++ answer_lines 2 answers
 
--- bytes are a sound file that means a machine, where the device reaches so far
+-- Bytes are a sound file that means a machine, where the device reaches so far.
 pub record IsFileOf (reach : ℕ) (bytes : List ℕ) (machine : Machine) : Type 0 where
   pub view : View
   pub sound : IsSoundFile reach bytes view
   pub means : MeanTheSame (meaning_of view) machine
 
--- a device has a sound file that means a machine, if it tells its bytes
+-- A device has a sound file that means a machine, if it tells its bytes.
 abbrev pub HasFileOf : ℕ → Option (List ℕ) → Machine → Type 0
 HasFileOf reach untold machine = Unit {0}
 HasFileOf reach (told bytes) machine = IsFileOf reach bytes machine
 
--- a device has a sound file in which nothing of these steps stands, or all of them
+-- A device has a sound file in which nothing of these steps stands, or all of them.
 abbrev pub HasAllOrNothing : ℕ → Option (List ℕ) → List Step → Type 0
 HasAllOrNothing reach now steps = HasFileOf reach now empty ⊎ HasFileOf reach now (machine_of steps)
 
--- lines and what a device has are those of the play of one transaction: the lines tell the machine's replies, and
--- the device's file means that machine
+-- Lines and what a device has are those of the play of one transaction: the lines tell the machine's replies, and
+-- the device's file means that machine.
 pub record IsTransactionPlay (reach : ℕ) (steps : List Step) (lines : List ℕ) (now : Option (List ℕ)) : Type 0 where
   pub replies : TellReplies steps lines
   pub file : HasFileOf reach now (machine_of steps)
 
--- the play of an empty script tells nothing, and the file means the machine without rows
+-- The play of an empty script tells nothing, and the file means the machine without rows.
 pub record IsEmptyPlay (reach : ℕ) (lines : List ℕ) (now : Option (List ℕ)) : Type 0 where
   pub nothing : lines ≡ []
   pub file : HasFileOf reach now empty
 
--- lines and what a device has are those of a play over the fresh file
+-- Lines and what a device has are those of a play over the fresh file.
 abbrev pub IsPlayOf : ℕ → SingleTransaction → List ℕ → Option (List ℕ) → Type 0
 IsPlayOf reach Absent lines now = IsEmptyPlay reach lines now
 IsPlayOf reach (Steps steps) lines now = IsTransactionPlay reach steps lines now
 
--- some of the lines of a play were told: they are a first part of lines that tell the machine's replies
+-- Some of the lines of a play were told: they are a first part of lines that tell the machine's replies.
 pub record TellSomeReplies (steps : List Step) (lines : List ℕ) : Type 0 where
   pub rest : List ℕ
   pub replies : TellReplies steps (lines ++ rest)
 
--- a play that did not come to its end has told some of its lines, and all or nothing of its steps stands
+-- A play that did not come to its end has told some of its lines, and all or nothing of its steps stands.
 pub record IsPartOfPlay (reach : ℕ) (steps : List Step) (lines : List ℕ) (now : Option (List ℕ)) : Type 0 where
   pub replies : TellSomeReplies steps lines
   pub file : HasAllOrNothing reach now steps

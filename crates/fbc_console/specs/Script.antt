@@ -1,34 +1,29 @@
 -- How a script is read from its source.
 use Rattle.std.specs.Prelude.{◌≡◌, ◌≤◌, ◌<◌, ◌+◌, ◌↔◌, IfSome, ℕ, List, [], ◌++◌, length, Option, Some, None}
 
--- a text was read from the front of what a source had left
+-- A text was read from the front of what a source had left.
 abbrev pub HasRead : Option (List ℕ) → Option (List ℕ) → List ℕ → Type 0
 HasRead None now text = now ≡ None
 HasRead (Some left) None text = ⊥
 HasRead (Some left) (Some now) text = left ≡ text ++ now
 
--- a text is all that a source had left
+-- A text is all that a source had left.
 abbrev pub HasReadAll : Option (List ℕ) → List ℕ → Type 0
 HasReadAll None text = Unit {0}
 HasReadAll (Some left) text = left ≡ text
 
--- a source that tells its bytes has none left
-abbrev pub IsReadOut : Option (List ℕ) → Type 0
-IsReadOut None = Unit {0}
-IsReadOut (Some left) = left ≡ []
-
--- a source has more left than a script may have
+-- A source has more left than a script may have.
 abbrev pub IsTooLong : Option (List ℕ) → Type 0
 IsTooLong None = Unit {0}
 IsTooLong (Some left) = 4194304 < length left
 
--- so many bytes were taken from a source and put behind a text, none only at the end of the source
+-- So many bytes were taken from a source and put behind a text, none only at the end of the source.
 pub record TakesNext (left now : Option (List ℕ)) (old new : List ℕ) (n : ℕ) : Type 0 where
   pub grown : length new ≡ length old + n
   pub taken : (before : Option (List ℕ)) → HasRead before left old → HasRead before now new
   pub ends : IfSome left (λ bytes. (n ≡ 0) ↔ (bytes ≡ []))
 
--- at most so many bytes were taken from a source
+-- At most so many bytes were taken from a source.
 abbrev pub TakesAtMost : ℕ → Option (List ℕ) → Option (List ℕ) → Type 0
 TakesAtMost most None now = now ≡ None
 TakesAtMost most (Some left) None = ⊥

@@ -5,11 +5,11 @@ use Rattle.fbc_script.specs.WhyText.{fault_text}
 use Rattle.fbc_console.specs.declared.statuses.Status.{Status}
 use Rattle.fbc_console.specs.declared.statuses.Status.TheVariants as status
 
--- a text as a line of its own
+-- A text as a line of its own.
 abbrev pub line_of : List ℕ → List ℕ
 line_of text = text ++ 10 ∷ []
 
--- the last line that a call with this status writes, nothing where it writes none
+-- The last line that a call with this status writes, nothing where it writes none.
 abbrev pub status_line : Status → List ℕ
 status_line status.Ok = []
 status_line status.Usage = line_of (codes "usage")
@@ -24,7 +24,7 @@ status_line status.Occupied = line_of (codes "occupied")
 status_line status.SourceLong = line_of (codes "scriptlong")
 status_line status.Later = line_of (codes "later")
 
--- the number by which the program ends
+-- The number by which the program ends.
 abbrev pub exit_number : Status → ℕ
 exit_number status.Ok = 0
 exit_number status.Usage = 1

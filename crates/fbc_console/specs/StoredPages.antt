@@ -5,20 +5,20 @@ use Rattle.fbc_kinds.specs.declared.pages.Cell.{Cell}
 use Rattle.fbc_console.specs.declared.store.Store.TheInside.{Inside}
 use Rattle.fbc_console.specs.FreshFile.{fresh_header, fresh_inventory, fresh_tip, fresh_pointer, filled_data}
 
--- the values that the first cells hold
+-- The values that the first cells hold.
 abbrev pub values_in : ℕ → List Cell → List (List ℕ)
 values_in rows cells = map (λ cell. cell.value) (take rows cells)
 
--- the values that were inserted
+-- The values that were inserted.
 abbrev pub values_of : Inside → List (List ℕ)
 values_of s = values_in s.rows s.data.cells
 
--- a value has 1 to 10 bytes
+-- A value has 1 to 10 bytes.
 pub record IsShortValue (value : List ℕ) : Type 0 where
   pub some : 0 < length value
   pub few : length value ≤ 10
 
--- all pages are those of the fresh file but for the data page, which holds the values
+-- All pages are those of the fresh file but for the data page, which holds the values.
 pub record IsStore (s : Inside) : Type 0 where
   pub header_is : s.header ≡ fresh_header
   pub inventory_is : s.inventory ≡ fresh_inventory

@@ -4,7 +4,8 @@ ghost use Rattle.std.specs.Prelude.{◌≡◌, ◌<◌, ◌≤◌, Some, length,
 ghost use Rattle.fbc_outside.specs.Faults.{Rose};
 ghost use Rattle.fbc_script.specs.Scripts.{IsScript, TellsFault};
 ghost use Rattle.fbc_script.specs.SingleTransaction.{Asks};
-ghost use Rattle.fbc_console.specs.Script.{IsReadOut, TakesAtMost};
+ghost use Rattle.fbc_console.specs.Bytes.{IsEmpty};
+ghost use Rattle.fbc_console.specs.Script.{TakesAtMost};
 ghost use Rattle.fbc_console.specs.Asking.{HasAsked, IsPlayable, WhyNotAsked, SpellsAsked, WhyNotSpelled};
 
 use crate::reading::read_script;
@@ -21,7 +22,7 @@ pub fn read_asked<S: Source>(alloc: Global, script: &mut S) -> Result<SingleTran
     ensures asked { IfOk result (HasAsked (S.left script.old)) }
     ensures playable { IfOk result IsPlayable }
     ensures why { IfErr result (λ status. WhyNotAsked status (S.left script.old)) }
-    ensures read_out { OnOk result (IsReadOut (S.left script.new)) }
+    ensures read_out { OnOk result (IsEmpty (S.left script.new)) }
     ensures bounded { TakesAtMost 4194305 (S.left script.old) (S.left script.new) }
     ensures fault { result ≡ Err Status.SourceFault → Rose (S.faults script.old) (S.faults script.new) }
     ensures later { S.faults script.old ≤ S.faults script.new }

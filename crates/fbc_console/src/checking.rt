@@ -1,7 +1,8 @@
 //! Checks a file, and tells what it finds.
 
 ghost use Rattle.std.specs.Prelude.{◌≡◌, ◌≤◌, ◌^◌, List, ℕ, IfOk};
-ghost use Rattle.fbc_outside.specs.Faults.{Rose};
+ghost use Rattle.fbc_kinds.specs.declared.rules.Rule.{Rule};
+ghost use Rattle.fbc_outside.specs.Faults.{Rose, bump};
 ghost use Rattle.fbc_console.specs.Checking.{IsCheckDone, IsReported, report};
 ghost use Rattle.fbc_console.specs.Closing.{Took};
 
@@ -27,6 +28,7 @@ pub fn check<D: Device, K: Sink>(
     ensures device_fault { result ≡ Err Status.DeviceFault → Rose (D.faults device.old) (D.faults device.new) }
     ensures device_later { D.faults device.old ≤ D.faults device.new }
     ensures writes { D.writes device.new ≡ D.writes device.old }
+    ensures refused_read { (rule : Rule) → result ≡ Err (Status.NotOurs rule) → D.reads device.new ≡ bump (D.reads device.old) }
     ensures reach { D.reach device.new ≡ D.reach device.old }
     ensures sink_fault { result ≡ Err Status.SinkFault → Rose (K.faults out.old) (K.faults out.new) }
     ensures sink_later { K.faults out.old ≤ K.faults out.new }
@@ -45,6 +47,7 @@ pub fn check<D: Device, K: Sink>(
 /// Errors: `Damaged` where a page is damaged, `SinkFault`, `OutOfMemory`.
 fn tell<K: Sink>(alloc: Global, json: bool, found: &Findings, out: &mut K) -> Result<(), Status>
     ensures told { IsReported result json found.now (K.may_have out.old) (K.may_have out.new) }
+    ensures no_refusal { (rule : Rule) → result ≡ Err (Status.NotOurs rule) → ⊥ }
     ensures sink_fault { result ≡ Err Status.SinkFault → Rose (K.faults out.old) (K.faults out.new) }
     ensures sink_later { K.faults out.old ≤ K.faults out.new }
 {

@@ -1,6 +1,7 @@
 //! Makes a new file, and tells how many pages it has.
 
 ghost use Rattle.std.specs.Prelude.{◌≡◌, ◌≤◌, List, ℕ, true, length, string_bytes, IfOk, IfErr};
+ghost use Rattle.fbc_kinds.specs.declared.rules.Rule.{Rule};
 ghost use Rattle.fbc_kinds.specs.Limits.{IsPageSize, is_page_size};
 ghost use Rattle.fbc_files.specs.NewPages.{AreNewRelations};
 ghost use Rattle.fbc_outside.specs.Faults.{Rose};
@@ -33,6 +34,7 @@ pub fn create<D: Device, K: Sink>(
     ensures sink_fault { result ≡ Err Status.SinkFault → Rose (K.faults out.old) (K.faults out.new) }
     ensures sink_later { K.faults out.old ≤ K.faults out.new }
     ensures no_source { result ≡ Err Status.SourceFault → ⊥ }
+    ensures no_refusal { (rule : Rule) → result ≡ Err (Status.NotOurs rule) → ⊥ }
 {
     new_file_is_sound();
     match is_vacant(device) {

@@ -1,6 +1,6 @@
 //! The opening of a file, and the test for the fresh file.
 
-ghost use Rattle.std.specs.Prelude.{◌≡◌, ◌≤◌, ◌⊎◌, IfOk, IfErr, OnOk};
+ghost use Rattle.std.specs.Prelude.{◌≡◌, ◌≢◌, ◌≤◌, ◌⊎◌, IfOk, IfErr};
 ghost use Rattle.fbc_outside.specs.Faults.{Rose, bump};
 ghost use Rattle.fbc_files.specs.Opening.{IsOpened};
 ghost use Rattle.fbc_console.specs.Opening.{WhyNotOpened, TellsFresh};
@@ -14,7 +14,8 @@ use std::alloc::Global;
 /// The bytes of the fresh file.
 const FRESH_SIZE: usize = 4096;
 
-/// Opens a file: one call of `length`, and one read of its first 1,024 bytes.
+/// Opens a file: one call of `length`, and one read of its first 1,024 bytes. It reads once whether
+/// the file is opened or refused, and at most once where a call was answered Failed.
 ///
 /// Errors: `NotOurs` where the file is refused, with the first rule that it breaks, and `DeviceFault`
 /// where a call was answered Failed.
@@ -23,7 +24,7 @@ pub fn open<D: Device>(device: &mut D) -> Result<Opened, Status>
     ensures refused { IfErr result (λ status. WhyNotOpened status (D.bytes device.old)) }
     ensures bytes { D.bytes device.new ≡ D.bytes device.old }
     ensures reads { (D.reads device.new ≡ D.reads device.old) ⊎ (D.reads device.new ≡ bump (D.reads device.old)) }
-    ensures read_once { OnOk result (D.reads device.new ≡ bump (D.reads device.old)) }
+    ensures read_once { result ≢ Err Status.DeviceFault → D.reads device.new ≡ bump (D.reads device.old) }
     ensures writes { D.writes device.new ≡ D.writes device.old }
     ensures reach { D.reach device.new ≡ D.reach device.old }
     ensures fault { result ≡ Err Status.DeviceFault → Rose (D.faults device.old) (D.faults device.new) }

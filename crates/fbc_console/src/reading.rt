@@ -2,7 +2,8 @@
 
 ghost use Rattle.std.specs.Prelude.{◌≡◌, ◌≤◌, ◌<◌, ◌⊎◌, length, IfOk, IfErr, OnOk, OnErr};
 ghost use Rattle.fbc_outside.specs.Faults.{Rose};
-ghost use Rattle.fbc_console.specs.Script.{HasReadAll, IsReadOut, IsTooLong, TakesNext, TakesAtMost};
+ghost use Rattle.fbc_console.specs.Bytes.{IsEmpty};
+ghost use Rattle.fbc_console.specs.Script.{HasReadAll, IsTooLong, TakesNext, TakesAtMost};
 
 use crate::statuses::Status;
 use fbc_outside::Source;
@@ -21,7 +22,7 @@ const PIECE: usize = 4096;
 pub fn read_script<S: Source>(alloc: Global, script: &mut S) -> Result<Vec<u8>, Status>
     ensures all { IfOk result (λ text. HasReadAll (S.left script.old) text.items) }
     ensures length { IfOk result (λ text. length text.items ≤ 4194304) }
-    ensures read_out { OnOk result (IsReadOut (S.left script.new)) }
+    ensures read_out { OnOk result (IsEmpty (S.left script.new)) }
     ensures bounded { TakesAtMost 4194305 (S.left script.old) (S.left script.new) }
     ensures long { result ≡ Err Status.SourceLong → IsTooLong (S.left script.old) }
     ensures fault { result ≡ Err Status.SourceFault → Rose (S.faults script.old) (S.faults script.new) }
@@ -43,7 +44,7 @@ pub fn read_script<S: Source>(alloc: Global, script: &mut S) -> Result<Vec<u8>, 
 fn read_next<S: Source>(script: &mut S, room: usize, text: &mut Vec<u8>) -> Result<usize, Status>
     requires { 0 < room }
     ensures next { IfOk result (λ n. TakesNext (S.left script.old) (S.left script.new) text.old.items text.new.items n) }
-    ensures end { IfOk result (λ n. n ≡ 0 → IsReadOut (S.left script.new)) }
+    ensures end { IfOk result (λ n. n ≡ 0 → IsEmpty (S.left script.new)) }
     ensures bounded { TakesAtMost room (S.left script.old) (S.left script.new) }
     ensures within { IfOk result (λ n. n ≤ room) }
     ensures fault { result ≡ Err Status.SourceFault → Rose (S.faults script.old) (S.faults script.new) }

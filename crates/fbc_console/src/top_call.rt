@@ -1,12 +1,16 @@
 //! The top call: words, file, script, play, and the status by which it ends.
 
 ghost use Rattle.std.specs.Prelude.{◌≡◌, ◌≤◌, ◌^◌, ◌⊎◌, List, ℕ, OnOk};
-ghost use Rattle.fbc_outside.specs.Faults.{Rose};
+ghost use Rattle.fbc_kinds.specs.declared.rules.Rule.{Rule};
+ghost use Rattle.fbc_outside.specs.Faults.{Rose, bump};
 ghost use Rattle.fbc_outside.specs.Streams.{SinkTakesSome};
 ghost use Rattle.fbc_console.specs.Statuses.{status_line};
-ghost use Rattle.fbc_console.specs.Script.{IsReadOut, TakesAtMost};
+ghost use Rattle.fbc_console.specs.Bytes.{IsEmpty};
+ghost use Rattle.fbc_console.specs.Script.{TakesAtMost};
+ghost use Rattle.fbc_console.specs.SoundFiles.{IsSoundDevice, IsUnsoundDevice, SpellsCheck};
 ghost use Rattle.fbc_command_line.specs.Commands.{SpellsPlay};
 ghost use Rattle.fbc_console.specs.Asking.{IsPlayable};
+ghost use Rattle.fbc_console.specs.Writing.{MayWrite};
 ghost use Rattle.fbc_console.specs.Opening.{IsFreshDevice};
 ghost use Rattle.fbc_console.specs.Closing.{IsClosed, IsLineWritten, Took};
 ghost use Rattle.fbc_console.specs.Completing.{IsCompleted, IsChecked, IsPlainCheck, IsPlainCreate, IsPlainPlay, NothingFailed};
@@ -36,7 +40,9 @@ pub struct Ended<D> {
 
 /// Carries out the words, without the file's name, over the file on the device, and hands the device
 /// back. `play` reads its script from `script`, `create` makes a file where nothing stands, and
-/// `validate` checks the whole file; all lines are written to `out`, and last that of the status where it has one (docs/STATUSES.md).
+/// `validate` checks the whole file; all lines are written to `out`, and last that of the status where
+/// it has one (docs/STATUSES.md). Only `play` and `create` write to the device, and a file that is
+/// refused is read once and not written.
 pub fn console<D: Device, S: Source, K: Sink>(
     alloc: Global,
     words: &[String],
@@ -51,8 +57,11 @@ pub fn console<D: Device, S: Source, K: Sink>(
     ensures source_fault { result.status ≡ Status.SourceFault → Rose (S.faults script.old) (S.faults script.new) }
     ensures sink_fault { result.status ≡ Status.SinkFault → Rose (K.faults out.old) (K.faults out.new) }
     ensures bounded { TakesAtMost 4194305 (S.left script.old) (S.left script.new) }
-    ensures read_out { result.status ≡ Status.Ok → SpellsPlay words.now → IsReadOut (S.left script.new) }
+    ensures read_out { result.status ≡ Status.Ok → SpellsPlay words.now → IsEmpty (S.left script.new) }
     ensures unread { (SpellsPlay words.now → ⊥) → S.left script.new ≡ S.left script.old }
+    ensures unwritten { (MayWrite words.now → ⊥) → D.writes result.device ≡ D.writes device }
+    ensures refused_read { (rule : Rule) → result.status ≡ Status.NotOurs rule → D.reads result.device ≡ bump (D.reads device) }
+    ensures refused_unwritten { (rule : Rule) → result.status ≡ Status.NotOurs rule → D.writes result.device ≡ D.writes device }
     ensures reach { D.reach result.device ≡ D.reach device }
     ensures device_later { D.faults device ≤ D.faults result.device }
     ensures source_later { S.faults script.old ≤ S.faults script.new }
@@ -61,6 +70,8 @@ pub fn console<D: Device, S: Source, K: Sink>(
         → IsPlainPlay words.now (S.left script.old) (D.bytes device) → IsCompleted result.status }
     ensures makes { NothingFailed (D.faults device) (D.faults result.device) (S.faults script.old) (S.faults script.new) (K.faults out.old) (K.faults out.new)
         → IsPlainCreate words.now (D.bytes device) → IsCompleted result.status }
+    ensures sound { result.status ≡ Status.Ok → SpellsCheck words.now → IsSoundDevice (D.reach device) (D.bytes device) }
+    ensures unsound { result.status ≡ Status.Damaged → SpellsCheck words.now → IsUnsoundDevice (D.reach device) (D.bytes device) }
     ensures checks { NothingFailed (D.faults device) (D.faults result.device) (S.faults script.old) (S.faults script.new) (K.faults out.old) (K.faults out.new)
         → IsPlainCheck words.now (D.bytes device) → IsChecked result.status }
 {
@@ -87,8 +98,11 @@ fn run<D: Device, S: Source, K: Sink>(
     ensures source_fault { result ≡ Status.SourceFault → Rose (S.faults script.old) (S.faults script.new) }
     ensures sink_fault { result ≡ Status.SinkFault → Rose (K.faults out.old) (K.faults out.new) }
     ensures bounded { TakesAtMost 4194305 (S.left script.old) (S.left script.new) }
-    ensures read_out { result ≡ Status.Ok → SpellsPlay words.now → IsReadOut (S.left script.new) }
+    ensures read_out { result ≡ Status.Ok → SpellsPlay words.now → IsEmpty (S.left script.new) }
     ensures unread { (SpellsPlay words.now → ⊥) → S.left script.new ≡ S.left script.old }
+    ensures unwritten { (MayWrite words.now → ⊥) → D.writes device.new ≡ D.writes device.old }
+    ensures refused_read { (rule : Rule) → result ≡ Status.NotOurs rule → D.reads device.new ≡ bump (D.reads device.old) }
+    ensures refused_unwritten { (rule : Rule) → result ≡ Status.NotOurs rule → D.writes device.new ≡ D.writes device.old }
     ensures reach { D.reach device.new ≡ D.reach device.old }
     ensures device_later { D.faults device.old ≤ D.faults device.new }
     ensures source_later { S.faults script.old ≤ S.faults script.new }
@@ -113,8 +127,11 @@ fn carry_out<D: Device, S: Source, K: Sink>(
     ensures source_fault { result ≡ Err Status.SourceFault → Rose (S.faults script.old) (S.faults script.new) }
     ensures sink_fault { result ≡ Err Status.SinkFault → Rose (K.faults out.old) (K.faults out.new) }
     ensures bounded { TakesAtMost 4194305 (S.left script.old) (S.left script.new) }
-    ensures read_out { OnOk result (SpellsPlay words.now → IsReadOut (S.left script.new)) }
+    ensures read_out { OnOk result (SpellsPlay words.now → IsEmpty (S.left script.new)) }
     ensures unread { (SpellsPlay words.now → ⊥) → S.left script.new ≡ S.left script.old }
+    ensures unwritten { (MayWrite words.now → ⊥) → D.writes device.new ≡ D.writes device.old }
+    ensures refused_read { (rule : Rule) → result ≡ Err (Status.NotOurs rule) → D.reads device.new ≡ bump (D.reads device.old) }
+    ensures refused_unwritten { (rule : Rule) → result ≡ Err (Status.NotOurs rule) → D.writes device.new ≡ D.writes device.old }
     ensures reach { D.reach device.new ≡ D.reach device.old }
     ensures device_later { D.faults device.old ≤ D.faults device.new }
     ensures source_later { S.faults script.old ≤ S.faults script.new }
@@ -144,7 +161,9 @@ fn play_file<D: Device, S: Source, K: Sink>(
     ensures source_fault { result ≡ Err Status.SourceFault → Rose (S.faults script.old) (S.faults script.new) }
     ensures sink_fault { result ≡ Err Status.SinkFault → Rose (K.faults out.old) (K.faults out.new) }
     ensures bounded { TakesAtMost 4194305 (S.left script.old) (S.left script.new) }
-    ensures read_out { OnOk result (IsReadOut (S.left script.new)) }
+    ensures read_out { OnOk result (IsEmpty (S.left script.new)) }
+    ensures refused_read { (rule : Rule) → result ≡ Err (Status.NotOurs rule) → D.reads device.new ≡ bump (D.reads device.old) }
+    ensures refused_unwritten { (rule : Rule) → result ≡ Err (Status.NotOurs rule) → D.writes device.new ≡ D.writes device.old }
     ensures reach { D.reach device.new ≡ D.reach device.old }
     ensures device_later { D.faults device.old ≤ D.faults device.new }
     ensures source_later { S.faults script.old ≤ S.faults script.new }
@@ -175,6 +194,7 @@ fn play_asked<D: Device, K: Sink>(
     requires playable { IsPlayable asked.now }
     requires fresh { IsFreshDevice (D.bytes device.old) }
     ensures played { (told : List ℕ) × IsFreshPlayed result asked.now told (D.bytes device.old) (D.bytes device.new) × Took result (K.may_have out.old) (K.may_have out.new) told }
+    ensures no_refusal { (rule : Rule) → result ≡ Err (Status.NotOurs rule) → ⊥ }
     ensures device_fault { result ≡ Err Status.DeviceFault → Rose (D.faults device.old) (D.faults device.new) }
     ensures device_later { D.faults device.old ≤ D.faults device.new }
     ensures sink_fault { result ≡ Err Status.SinkFault → Rose (K.faults out.old) (K.faults out.new) }
@@ -196,6 +216,7 @@ pub fn end<K: Sink>(alloc: Global, outcome: Result<(), Status>, out: &mut K) -> 
     ensures closed { IsClosed outcome (K.may_have out.old) (K.may_have out.new) result }
     ensures fault { result ≡ Status.SinkFault → (outcome ≡ Err Status.SinkFault) ⊎ Rose (K.faults out.old) (K.faults out.new) }
     ensures same { (result ≡ Status.DeviceFault) ⊎ (result ≡ Status.SourceFault) → outcome ≡ Err result }
+    ensures refused { (rule : Rule) → result ≡ Status.NotOurs rule → outcome ≡ Err result }
     ensures well { result ≡ Status.Ok → (outcome ≡ Ok tt) ⊎ (outcome ≡ Err Status.Ok) }
     ensures later { K.faults out.old ≤ K.faults out.new }
 {

@@ -18,7 +18,7 @@ empty t there = absurd (grind (arith, there.1))
 pub none-open : (w : World) (cut : Cut) → AreOpenIn w cut []
 none-open w cut = record { each = λ t there. absurd (empty t there); drafts = λ t page there. absurd (empty t there) }
 
--- nobody's commit is in the cut without any page
+-- Nobody's commit is in the cut without any page.
 pub no-commits : (w : World) (owner : ℕ) → commits_in w no_page owner ≡ false
 no-commits w owner = go (w.marked owner) where
   go : (mark : Option ℕ) → option_map_or no_page mark false ≡ false

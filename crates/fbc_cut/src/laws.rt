@@ -14,7 +14,7 @@ ghost use Rattle.fbc_runs.specs.Ended.{settled_by};
 ghost use Rattle.fbc_runs.specs.Runs.{MayAllCome};
 ghost use Rattle.fbc_simulation.specs.Beside.{commits_in, machine_of};
 ghost use Rattle.fbc_simulation.specs.Newest.{opens_at};
-ghost use Rattle.fbc_views.specs.Edited.{IsOfShape};
+ghost use Rattle.fbc_page_edits.specs.Edited.{IsOfShape};
 ghost use Rattle.fbc_world.specs.Commands.{commands_of};
 ghost use Rattle.fbc_world.specs.History.{History};
 ghost use Rattle.fbc_world.specs.World.{newest_of, world_of};
@@ -46,14 +46,16 @@ pub fn every_cut_is_sound()
 pub fn every_cut_means_the_machine()
     ensures { (shape : Shape) (file : View) (history : History) (cut : Cut) → IsOfShape shape file → IsSound file → IsLegal shape file history
         → IsClosedCut (world_of shape file history) cut
-        → MeanTheSame (meaning_of (view (world_of shape file history) cut)) (settled_by [] (commits_in (world_of shape file history) cut) (machine_of shape file history)) }
+        → MeanTheSame (meaning_of (view (world_of shape file history) cut))
+        (settled_by [] (commits_in (world_of shape file history) cut) (machine_of shape file history)) }
 {
     legal_histories_are_simulated();
 }
 
 /// So the file itself is sound at each moment, whoever died before, and wherever.
 pub fn kept_pages_are_sound()
-    ensures { (shape : Shape) (file : View) (history : History) → IsOfShape shape file → IsSound file → IsLegal shape file history → IsSound (world_of shape file history).kept }
+    ensures { (shape : Shape) (file : View) (history : History) → IsOfShape shape file → IsSound file
+        → IsLegal shape file history → IsSound (world_of shape file history).kept }
 {
     every_cut_is_sound();
 }

@@ -20,16 +20,16 @@ use Rattle.fbc_downgrade.specs.Ending.{lowering_for}
 use Rattle.fbc_downgrade.specs.Serving.{IsKeep, IsPassedOver, Serves, is_above}
 use Rattle.fbc_downgrade.proofs.Lowering.{may-give_up}
 
--- the page is not in use, and is held in no level above
+-- The page is not in use, and is held in no level above.
 record IsBelow (found : Option Buffer) (keep : Level) : Type 0 where
   loose : option_map_or (λ (b : Buffer). b.is_pinned) found false ≡ false
   above : is_above (option_map_or (λ (b : Buffer). b.level) found Free) keep ≡ false
 
--- a page that is given up has no buffer
+-- A page that is given up has no buffer.
 none-below : (held : List Buffer) (page : ℕ) → buffer_of (without page held) page ≡ None
 none-below held page = grind (arith, nat_tests, buffer_of-without page held page)
 
--- a page that is lowered to PR is held in PR
+-- A page that is lowered to PR is held in PR.
 lowered-below : (page : ℕ) (found : Option Buffer) → IfSome found (λ b. b.page ≡ page) → option_map_or (λ (b : Buffer). b.is_pinned) found false ≡ false
     → IsBelow (option_map (with_blocking page false) (option_map (with_level page Pr) found)) Pr
 lowered-below page None of loose = record { loose = refl; above = refl }

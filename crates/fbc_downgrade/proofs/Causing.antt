@@ -6,19 +6,19 @@ use Rattle.fbc_levels.specs.declared.resources.Resource.{Resource}
 use Rattle.fbc_world.specs.declared.asks.Ask.TheVariants as ask
 use Rattle.fbc_world.specs.declared.asks.Cause.{Cause}
 use Rattle.fbc_world.specs.declared.asks.Cause.TheVariants.{CallbackOf}
-use Rattle.fbc_world.specs.Holdings.{page_resource}
+use Rattle.fbc_levels.specs.Resources.{page_resource}
 use Rattle.fbc_cache.specs.Cache.{CacheState}
 use Rattle.fbc_downgrade.specs.Serving.{Downgrades}
 
 same-cause : (page next : ℕ) (cause other : Cause) → ask.Write page cause ≡ ask.Write next other → cause ≡ other
 same-cause page next cause other is = cc
 
--- a write has the callback as its cause
+-- A write has the callback as its cause.
 pub cause-is : (c : CacheState) (callback : Callback) (page : ℕ) (cause : Cause) → Downgrades c callback (ask.Write page cause) → cause ≡ CallbackOf callback.asker
 cause-is c callback page cause (inl write) = same-cause page write.1.next cause (CallbackOf callback.asker) write.1.is_write
 cause-is c callback page cause (inr lowering) = let wrong = lowering.1 in absurd (cc)
 
--- a lowering is of the page, to what may be kept
+-- A lowering is of the page, to what may be kept.
 pub record IsItsLowering (callback : Callback) (resource : Resource) (level : Level) : Type 0 where
   pub page : resource ≡ page_resource callback.page
   pub keep : level ≡ callback.keep

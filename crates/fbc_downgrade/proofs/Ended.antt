@@ -9,7 +9,7 @@ use Rattle.fbc_downgrade.specs.Ending.{Writes, WritesOrLowers, after_writing, mo
 use Rattle.fbc_downgrade.specs.Serving.{Downgrades, IsServed, Serves, is_above}
 use Rattle.fbc_downgrade.proofs.Written.{IsDueWrite, cache-after, due-write, level-stays, pin-stays, write-done}
 
--- a write leaves pins and levels
+-- A write leaves pins and levels.
 served-after : (c : CacheState) (callback : Callback) (page : ℕ) → IsCache c → IsDueWrite c callback.page page → IsServed c callback → IsServed (after_writing c callback page) callback
 served-after c callback page is write served = subst (λ s. IsServed s callback) (sym (write-done c callback page is write)) (record {
   loose = pin-stays c.held page callback.page ∙ served.loose;
@@ -22,7 +22,7 @@ served-still callback _ _ _ is served (more c page count after serves rest) =
     let write : IsDueWrite c callback.page page = due-write c callback page serves.1 in
     served-still callback (after_writing c callback page) after count (cache-after c callback page is write) (served-after c callback page is write served) rest
 
--- what is due of a callback that is served is a write for the asker or the lowering
+-- What is due of a callback that is served is a write for the asker or the lowering.
 due-step : (c : CacheState) (callback : Callback) (asked : Ask) → Downgrades c callback asked → WritesOrLowers callback asked
 due-step c callback asked (inl write) = inl (write.1.next, write.1.is_write)
 due-step c callback asked (inr lowering) = inr lowering.1

@@ -6,14 +6,15 @@ use Rattle.std.specs.List.{filter, list_any}
 use Rattle.fbc_kinds.specs.declared.edges.Edge.{Edge}
 use Rattle.fbc_levels.specs.declared.resources.Callback.{Callback}
 use Rattle.fbc_precedence.specs.Pages.{has}
-use Rattle.fbc_precedence.specs.Precedence.{IsAtOrBefore, StandsBefore, is_pair, is_without, straight, through}
+use Rattle.fbc_kinds.specs.Order.{straight, through}
+use Rattle.fbc_precedence.specs.Precedence.{IsAtOrBefore, ComesBefore, is_pair, is_without}
 use Rattle.fbc_world.specs.declared.answers.Answer.TheVariants.{Written}
 use Rattle.fbc_cache.specs.Cache.{CacheState, IsCache, is_dirty_in}
 use Rattle.fbc_cache.specs.Takes.{after_write}
 use Rattle.fbc_downgrade.specs.Ending.{HasDirtyBefore, Writes, after_writing, more, none}
 use Rattle.fbc_downgrade.proofs.Written.{IsDueWrite, cache-after, due-write, still-dirty, write-dirty, write-done}
 
--- the pages of a list but this one
+-- The pages of a list but this one.
 abbrev others : ℕ → List ℕ → List ℕ
 others page pages = filter (λ p. not (p == page)) pages
 
@@ -29,12 +30,12 @@ still-there : (page other : ℕ) (pages : List ℕ) → other == page ≡ false 
 still-there page other [] differs there = there
 still-there page other (p ∷ ps) differs there = grind (arith, nat_tests, differs, there, still-there page other ps differs)
 
--- with fewer pairs no more stand before a page
+-- With fewer pairs no more stand before a page.
 any-before : (q : Edge → Bool) (p : Edge → Bool) (pairs : List Edge) → list_any q (filter p pairs) ≡ true → list_any q pairs ≡ true
 any-before q p [] is = is
 any-before q p (e ∷ es) is = grind (arith, is, any-before q p es)
 
-path-before : (p : Edge → Bool) (pairs : List Edge) (high low : ℕ) → StandsBefore (filter p pairs) high low → StandsBefore pairs high low
+path-before : (p : Edge → Bool) (pairs : List Edge) (high low : ℕ) → ComesBefore (filter p pairs) high low → ComesBefore pairs high low
 path-before p pairs _ _ (straight high low is) = straight high low (any-before (is_pair high low) p pairs is)
 path-before p pairs _ _ (through high between low is rest) =
     through high between low (any-before (is_pair high between) p pairs is) (path-before p pairs between low rest)
@@ -43,7 +44,7 @@ among-before : (p : Edge → Bool) (pairs : List Edge) (other page : ℕ) → Is
 among-before p pairs other page (inl same) = inl same
 among-before p pairs other page (inr before) = inr (path-before p pairs other page before)
 
--- after a write the other dirty pages are left
+-- After a write the other dirty pages are left.
 dirty-after : (c : CacheState) (page written : ℕ) (pages : List ℕ) → HasDirtyBefore c page pages → HasDirtyBefore (after_write c written Written) page (others written pages)
 dirty-after c page written pages all other before dirty =
     let both : (is_dirty_in c.held other ≡ true) × (other == written ≡ false) = still-dirty c.held written other dirty in

@@ -12,7 +12,7 @@ use Rattle.fbc_legal.specs.Causes.{IsPolled, answered, still}
 use Rattle.fbc_cache.specs.Cache.{CacheState, level_in}
 use Rattle.fbc_downgrade.specs.Serving.{IsKeep, IsServed, is_above}
 
--- the greatest of three levels
+-- The greatest of three levels.
 highest-is : (wanted : List Level) → (highest_beside wanted ≡ Ex) ⊎ IsKeep (highest_beside wanted)
 highest-is wanted = go (list_all (is_compatible Ex) wanted) (list_all (is_compatible Pr) wanted) where
   go : (s t : Bool) → ((if s then Ex else (if t then Pr else Free)) ≡ Ex) ⊎ IsKeep (if s then Ex else (if t then Pr else Free))
@@ -25,7 +25,7 @@ keep-is owner callback _ (answered before moment above actor act next) =
     subst (λ (level : Level). (level ≡ Ex) ⊎ IsKeep level) (sym next.keep) (highest-is (wanted_levels (locks_of before) owner callback.page))
 keep-is owner callback _ (still before moment polled other) = keep-is owner callback before polled
 
--- no level is above EX
+-- No level is above EX.
 none-above : (level : Level) → is_above level Ex ≡ true → ⊥
 none-above Free above = absurd (cc)
 none-above Null above = absurd (cc)

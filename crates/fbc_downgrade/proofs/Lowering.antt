@@ -6,19 +6,19 @@ use Rattle.fbc_kinds.specs.declared.shapes.Shape.{Shape}
 use Rattle.fbc_levels.specs.declared.levels.Level.{Level}
 use Rattle.fbc_levels.specs.declared.levels.Level.TheVariants.{Free, Pr}
 use Rattle.fbc_levels.specs.declared.resources.Callback.{Callback}
-use Rattle.fbc_levels.specs.Levels.{is_free}
+use Rattle.fbc_levels.specs.Levels.{is_free, is_page_level}
 use Rattle.fbc_buffers.specs.declared.buffers.Buffer.{Buffer}
 use Rattle.fbc_buffers.specs.Holding.{buffer_of}
-use Rattle.fbc_cache.specs.Cache.{CacheState, HasLevel, IsBuffer, IsCache, is_page_level, level_in}
+use Rattle.fbc_cache.specs.Cache.{CacheState, HasLevel, IsBuffer, IsCache, level_in}
 use Rattle.fbc_cache.specs.Wants.{MayGiveUp, is_part}
 use Rattle.fbc_cache.proofs.HeldPairs.{found-is}
 use Rattle.fbc_downgrade.specs.Serving.{IsKeep, IsServed, is_above}
 
--- no lock at all is above nothing
+-- No lock at all is above nothing.
 free-below : (keep : Level) → is_above Free keep ≡ true → ⊥
 free-below keep above = grind (arith, nat_tests, above)
 
--- a page that is held in a level above another is no more waited for, and held in one of the two page levels
+-- A page that is held in a level above another is no more waited for, and held in one of the two page levels.
 record IsHeld (level : Level) (wanted : Option Level) : Type 0 where
   granted : is_none wanted ≡ true
   fits : is_page_level level ≡ true
@@ -35,7 +35,7 @@ fits-above : (shape : Shape) (keep : Level) (found : Option Buffer) → IfSome f
 fits-above shape keep None is above = absurd (free-below keep above)
 fits-above shape keep (Some b) is above = (held-above b.level keep b.wanted is.level above).fits
 
--- what may be kept of a page is a part of each page level above it
+-- What may be kept of a page is a part of each page level above it.
 keep-part : (level keep : Level) → IsKeep keep → is_page_level level ≡ true → is_above level keep ≡ true → is_part keep level ≡ true
 keep-part level keep (inl free) fits above = subst (λ k. is_part k level ≡ true) (sym free) refl
 keep-part level keep (inr pr) fits above = subst (λ k. is_part k level ≡ true) (sym pr) (part level fits) where

@@ -19,7 +19,7 @@ use Rattle.fbc_cache.proofs.Steps.{cache-written}
 use Rattle.fbc_downgrade.specs.Ending.{after_writing, write_for}
 use Rattle.fbc_downgrade.specs.Serving.{Downgrades}
 
--- a write that gives the page up is of the next page in order
+-- A write that gives the page up is of the next page in order.
 pub record IsDueWrite (c : CacheState) (page written : ℕ) : Type 0 where
   pub unsettled : IsUnsettled c page
   pub next : IsNextToWrite c.pairs page written
@@ -33,7 +33,7 @@ due-write c callback page (inl write) =
     record { unsettled = write.0; next = subst (IsNextToWrite c.pairs callback.page) (sym same) write.1.is_next }
 due-write c callback page (inr lowering) = let wrong = lowering.1 in absurd (cc)
 
--- what a write leaves of a page
+-- What a write leaves of a page.
 keeps-page : (page : ℕ) → KeepsPage (with_dirt page false)
 keeps-page page b = go (b.page == page) where
   go : (t : Bool) → (cond t (record b { is_dirty = false }) b).page ≡ b.page
@@ -52,7 +52,7 @@ dirty-before page other (Some b) of dirty = go (b.page == page) refl dirty where
   go false differs dirty = (dirty, subst (λ p. (p == page) ≡ false) of differs)
 
 module _ (held : List Buffer) (page other : ℕ) where
-  -- a page that is dirty after it was dirty before, and is another
+  -- A page that is dirty after it was dirty before, and is another.
   pub still-dirty : is_dirty_in (map (with_dirt page false) held) other ≡ true → (is_dirty_in held other ≡ true) × (other == page ≡ false)
   still-dirty dirty =
       dirty-before page other (buffer_of held other) (buffer_of-page held other)
@@ -78,7 +78,7 @@ module _ (held : List Buffer) (page other : ℕ) where
           go true = refl
           go false = refl
 
--- the write is due: the page is clean after it, and its pairs end
+-- The write is due: the page is clean after it, and its pairs end.
 module _ (c : CacheState) (callback : Callback) (page : ℕ) (is : IsCache c) (write : IsDueWrite c callback.page page) where
   pub write-dirty : is_dirty_in c.held page ≡ true
   write-dirty = next-dirty c is callback.page page write.unsettled write.next

@@ -7,7 +7,7 @@ use Rattle.fbc_world.specs.declared.answers.Answer.TheVariants.{Written}
 use Rattle.fbc_world.specs.declared.asks.Ask.{Ask}
 use Rattle.fbc_world.specs.declared.asks.Ask.TheVariants as ask
 use Rattle.fbc_world.specs.declared.asks.Cause.TheVariants.{CallbackOf}
-use Rattle.fbc_world.specs.Holdings.{page_resource}
+use Rattle.fbc_levels.specs.Resources.{page_resource}
 use Rattle.fbc_cache.specs.Cache.{CacheState, is_dirty_in}
 use Rattle.fbc_cache.specs.Takes.{after_take}
 use Rattle.fbc_downgrade.specs.declared.serving.Serving.TheVariants.{Must}

@@ -31,7 +31,7 @@ legal_full_ask = (
   },
 )
 
--- owners 1 and 2 share the relation
+-- Owners 1 and 2 share the relation.
 abbrev with_first_share : History
 with_first_share = does 1 (Grant relation_resource Sr) (does 1 (Ask relation_resource Sr true 0) (does 2 (Enter 8 2) with_owner))
 

@@ -9,10 +9,10 @@ use Rattle.fbc_levels.specs.declared.resources.Callback.{Callback}
 use Rattle.fbc_world.specs.declared.asks.Cause.TheVariants as cause
 use Rattle.fbc_world.specs.declared.events.Act.TheVariants.{Enter, Lower, Opened, Poll, Write}
 use Rattle.fbc_world.specs.History.{History}
-use Rattle.fbc_world.specs.Holdings.{page_resource}
+use Rattle.fbc_levels.specs.Resources.{page_resource}
 use Rattle.fbc_world.specs.Locks.{locks_of}
 use Rattle.fbc_world.specs.World.{world_of}
-use Rattle.fbc_world.specs.WriteOrder.{StandsBefore}
+use Rattle.fbc_kinds.specs.Order.{StandsBefore}
 use Rattle.fbc_legal.specs.Causes.{IsPolled}
 use Rattle.fbc_legal.specs.Legal.{IsLegal}
 use Rattle.fbc_examples.specs.Files.{new_file, small_shape}
@@ -104,7 +104,7 @@ legal_wanted_draft = (
   },
 )
 
--- owner 1 is called back on page 1 for owner 2, and keeps PR
+-- Owner 1 is called back on page 1 for owner 2, and keeps PR.
 abbrev callback : Callback
 callback = record { page = 1; asker = 2; keep = Pr }
 

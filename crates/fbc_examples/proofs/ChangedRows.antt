@@ -11,7 +11,7 @@ use Rattle.fbc_kinds.specs.View.{View}
 use Rattle.fbc_world.specs.declared.asks.Cause.TheVariants as cause
 use Rattle.fbc_world.specs.Holdings.{is_draft_of}
 use Rattle.fbc_world.specs.World.{world_of}
-use Rattle.fbc_world.specs.WriteOrder.{StandsBefore}
+use Rattle.fbc_kinds.specs.Order.{StandsBefore}
 use Rattle.fbc_legal.specs.Guards.{IsLeastActive, MayBegin}
 use Rattle.fbc_legal.specs.Leans.{PutLeans}
 use Rattle.fbc_legal.specs.Legal.{IsLegal}
@@ -47,7 +47,7 @@ may_begin = record {
   word_is = least_is;
 }
 
--- the same once it has asked
+-- The same once it has asked.
 still_may_begin : MayBegin (scene_of small_shape empty_file (asks 1 (number_resource 1) 1 with_pages)) 1 1 1
 still_may_begin = record {
   next = refl;
@@ -79,7 +79,7 @@ legal_order =
 pub first_version : IsFirstVersion (scene_of small_shape empty_file (orders 0 4 with_begin)) 1 4 0 (value 1 65)
 first_version = record { t = first_transaction; old = empty_cell; open_is = refl; stands = refl; over = refl; value = refl; own = refl; alone = refl }
 
--- the header, which is to be written before the data page, shows that the number was begun
+-- The header, which is to be written before the data page, shows that the number was begun.
 first_leans : PutLeans (scene_of small_shape empty_file (orders 0 4 with_begin)) 1 4 0 0 (value 1 65)
 first_leans = record {
   begun = record { newest = (header 2, refl, omega arith); in_time = inr (inr (refl, StandsBefore.straight 0 4 (1, refl))) };
@@ -126,7 +126,7 @@ legal_changed_row =
 legal_header_write : IsLegal small_shape empty_file (writes 0 with_changed_row)
 legal_header_write = legal_writes empty_file with_changed_row 0 cause.Commit false false legal_changed_row tt refl refl (λ owner high. grind (arith, nat_tests)) (inl tt)
 
-legal_data_write : IsLegal small_shape empty_file (writes 4 (writes 0 with_changed_row))
+pub legal_data_write : IsLegal small_shape empty_file (writes 4 (writes 0 with_changed_row))
 legal_data_write =
     legal_writes empty_file (writes 0 with_changed_row) 4 cause.Commit false false legal_header_write tt refl refl (λ owner high. grind (arith, nat_tests)) (inl tt)
 

@@ -8,7 +8,7 @@ use Rattle.fbc_world.specs.declared.asks.Cause.TheVariants as cause
 use Rattle.fbc_world.specs.History.{History}
 use Rattle.fbc_world.specs.Holdings.{is_draft_of}
 use Rattle.fbc_world.specs.World.{world_of}
-use Rattle.fbc_world.specs.WriteOrder.{StandsBefore}
+use Rattle.fbc_kinds.specs.Order.{StandsBefore}
 use Rattle.fbc_legal.specs.Guards.{IsLeastActive, MayBegin}
 use Rattle.fbc_legal.specs.Leans.{FormatLeans, IsInUse, IsReady, PutLeans}
 use Rattle.fbc_legal.specs.Legal.{IsLegal}
@@ -45,7 +45,7 @@ may_begin = record {
   word_is = least_is;
 }
 
--- the same once it has asked
+-- The same once it has asked.
 still_may_begin : MayBegin (scene_of small_shape new_file (asks 1 (number_resource 1) 1 with_five)) 1 1 1
 still_may_begin = record {
   next = refl;
@@ -72,7 +72,7 @@ legal_taken =
     legal_orders new_file (edits 1 (TakePage 4) with_whole_file) 1 4 taken tt refl (λ same. omega arith)
     (nothing_before (world_of small_shape new_file (edits 1 (TakePage 4) with_whole_file)) 1 (λ owner high. refl) 4)
 
--- page 4 is in use, and is named nowhere since it was taken
+-- Page 4 is in use, and is named nowhere since it was taken.
 in_use : IsInUse (scene_of small_shape new_file with_taken) 1 4 4
 in_use = record {
   taken = record { newest = refl; in_time = inr (inr (refl, StandsBefore.straight 1 4 (1, refl))) };
@@ -132,7 +132,7 @@ put_leans = record {
   cut = λ taken. absurd cc;
 }
 
--- the owner's own draft of the pointer page names the data page
+-- The owner's own draft of the pointer page names the data page.
 legal_first_row : IsLegal small_shape new_file with_first_row
 legal_first_row =
     legal_edits new_file (orders 0 4 with_new_page) 4 (PutCell 0 (value 1 65)) legal_second_order tt refl refl

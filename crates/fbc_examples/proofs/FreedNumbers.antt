@@ -1,6 +1,7 @@
 -- A number whose mark is written is given up, and so is a relation, legally.
-use Rattle.std.proofs.Common.{◌≡◌, ℕ, Bool, true, false, ◌∷◌, ◌∙◌, refl, sym}
+use Rattle.std.proofs.Common.{◌≡◌, ◌==◌, ℕ, Bool, true, false, not, ◌∷◌, ◌∙◌, refl, sym, arith}
 use Rattle.std.specs.List.{list_all}
+use Rattle.std.proofs.lemmas.Bool.Decides.{nat_tests}
 use Rattle.std.proofs.lemmas.Option.{none-some}
 use Rattle.fbc_kinds.specs.declared.edits.Edit.TheVariants.{Mark}
 use Rattle.fbc_kinds.specs.declared.pages.State.{State}
@@ -21,34 +22,38 @@ use Rattle.fbc_examples.specs.Writing.{with_free_number, with_free_relation, wit
 use Rattle.fbc_examples.proofs.ChangedRows.{legal_commit}
 use Rattle.fbc_examples.proofs.LegalSteps.{legal_owner}
 
--- whether the act marks no number
-abbrev marks_none : Act → Bool
-marks_none (Local (local.Edit page (Mark number state))) = false
-marks_none _ = true
+-- Whether the act does not mark this number.
+abbrev pub marks_not : ℕ → Act → Bool
+marks_not number (Local (local.Edit page (Mark other state))) = not (other == number)
+marks_not number _ = true
 
-both : (b : Bool) → b ≡ true → b ≡ false → ⊥
-both b is isnt = cc
+-- No moment of a history marks it.
+abbrev pub never_marks : ℕ → History → Bool
+never_marks number past = list_all (λ (moment : Moment). marks_not number moment.event.act) past
 
--- where no number was marked, no mark is to be written
-unmarked : (owner number page : ℕ) (past : History) → list_all (λ (moment : Moment). marks_none moment.event.act) past ≡ true → IsUnwrittenOn owner number page past → ⊥
+not_itself : (number : ℕ) → not (number == number) ≡ true → ⊥
+not_itself number is = grind (arith, nat_tests, is)
+
+-- Where the number was not marked, no mark of it is to be written.
+unmarked : (owner number page : ℕ) (past : History) → never_marks number past ≡ true → IsUnwrittenOn owner number page past → ⊥
 unmarked owner number page _ all (IsUnwrittenOn.marked before moment state is) =
-    let first : marks_none moment.event.act ≡ true = (both_pass (marks_none moment.event.act) (list_all (λ (m : Moment). marks_none m.event.act) before) all).0 in
-    let none : marks_none (Local (local.Edit page (Mark number state))) ≡ true = rw is.act at first in cc
+    let first : marks_not number moment.event.act ≡ true = (both_pass (marks_not number moment.event.act) (never_marks number before) all).0 in
+    let none : marks_not number (Local (local.Edit page (Mark number state))) ≡ true = rw is.act at first in not_itself number none
 unmarked owner number page _ all (IsUnwrittenOn.still before moment unwritten not_written) = unmarked owner number page before (both_pass _ _ all).1 unwritten
 
--- where one mark is the last of all, it is on its own page
-marked_page : (page marked : ℕ) (state : State) (mark : Moment) (past : History) → mark.event.act ≡ Local (local.Edit marked (Mark 1 state))
-    → list_all (λ (moment : Moment). marks_none moment.event.act) past ≡ true → IsUnwrittenOn 1 1 page (mark ∷ past) → page ≡ marked
-marked_page page marked state mark past act all (IsUnwrittenOn.marked _ _ other is) = cc (is.act)
-marked_page page marked state mark past act all (IsUnwrittenOn.still _ _ unwritten not_written) = absurd (unmarked 1 1 page past all unwritten)
+-- Where one mark is the last of all, it is on its own page.
+marked_page : (number page marked : ℕ) (state : State) (mark : Moment) (past : History) → mark.event.act ≡ Local (local.Edit marked (Mark number state))
+    → never_marks number past ≡ true → IsUnwrittenOn 1 number page (mark ∷ past) → page ≡ marked
+marked_page number page marked state mark past act all (IsUnwrittenOn.marked _ _ other is) = cc (is.act)
+marked_page number page marked state mark past act all (IsUnwrittenOn.still _ _ unwritten not_written) = absurd (unmarked 1 number page past all unwritten)
 
--- and where that page is written next, no mark is to be written
-written_next : (page marked : ℕ) (state : State) (reason : Cause) (write mark : Moment) (past : History) → write.event.actor ≡ 1 → write.event.act ≡ Write marked reason false
-    → mark.event.act ≡ Local (local.Edit marked (Mark 1 state)) → list_all (λ (moment : Moment). marks_none moment.event.act) past ≡ true
-    → IsUnwrittenOn 1 1 page (write ∷ mark ∷ past) → ⊥
-written_next page marked state reason write mark past actor act marks all (IsUnwrittenOn.marked _ _ other is) = let no : Write marked reason false ≡ Local (local.Edit page (Mark 1 other)) = sym act ∙ is.act in cc
-written_next page marked state reason write mark past actor act marks all (IsUnwrittenOn.still _ _ unwritten not_written) =
-    not_written (record { cause = reason; actor = actor; act = rw (marked_page page marked state mark past marks all unwritten) act })
+-- And where that page is written next, no mark is to be written.
+pub written_next : (number page marked : ℕ) (state : State) (reason : Cause) (write mark : Moment) (past : History) → write.event.actor ≡ 1 → write.event.act ≡ Write marked reason false
+    → mark.event.act ≡ Local (local.Edit marked (Mark number state)) → never_marks number past ≡ true
+    → IsUnwrittenOn 1 number page (write ∷ mark ∷ past) → ⊥
+written_next number page marked state reason write mark past actor act marks all (IsUnwrittenOn.marked _ _ other is) = let no : Write marked reason false ≡ Local (local.Edit page (Mark number other)) = sym act ∙ is.act in cc
+written_next number page marked state reason write mark past actor act marks all (IsUnwrittenOn.still _ _ unwritten not_written) =
+    not_written (record { cause = reason; actor = actor; act = rw (marked_page number page marked state mark past marks all unwritten) act })
 
 pub legal_free_number : IsLegal small_shape empty_file with_free_number
 legal_free_number = (
@@ -60,7 +65,7 @@ legal_free_number = (
       part = refl;
       by_series = record {
         over = λ t open_is. absurd (none-some t open_is);
-        written = λ own unwritten. written_next unwritten.0 2 Committed cause.Commit _ _ (writes 4 (writes 0 with_changed_row)) refl refl refl refl unwritten.1;
+        written = λ own unwritten. written_next 1 unwritten.0 2 Committed cause.Commit _ _ (writes 4 (writes 0 with_changed_row)) refl refl refl refl unwritten.1;
       };
     };
   },

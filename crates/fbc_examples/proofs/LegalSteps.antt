@@ -19,21 +19,22 @@ use Rattle.fbc_world.specs.declared.asks.Cause.{Cause}
 use Rattle.fbc_world.specs.declared.events.Act.TheVariants.{Ask, Local, Write}
 use Rattle.fbc_world.specs.declared.events.LocalEvent.TheVariants as local
 use Rattle.fbc_world.specs.History.{History, happens}
-use Rattle.fbc_world.specs.Holdings.{holdings_of, is_draft_of, page_resource}
+use Rattle.fbc_world.specs.Holdings.{holdings_of, is_draft_of}
+use Rattle.fbc_levels.specs.Resources.{page_resource}
 use Rattle.fbc_world.specs.Locks.{waiting_of}
 use Rattle.fbc_world.specs.World.{page_after, world_of}
 use Rattle.fbc_legal.specs.Causes.{MeetsCause}
 use Rattle.fbc_legal.specs.Guards.{BeginsWell, GuardOfSeries, HasBase}
 use Rattle.fbc_legal.specs.Leans.{LeansOn}
-use Rattle.fbc_legal.specs.Legal.{Follows, IsLegal}
+use Rattle.fbc_legal.specs.Legal.{ComesNext, IsLegal}
 use Rattle.fbc_legal.specs.Naming.{IsNamedWhereEdited}
 use Rattle.fbc_legal.specs.Rows.{IsEditOfRow}
 use Rattle.fbc_legal.specs.Scene.{IsBefore, scene_of}
 use Rattle.fbc_examples.specs.Files.{small_shape}
-use Rattle.fbc_examples.specs.Steps.{asks, edits, gets, holds, orders, with_owner}
+use Rattle.fbc_examples.specs.Steps.{asks, edits, edits_by, gets, holds, holds_by, orders, orders_by, with_owner}
 use Rattle.fbc_examples.proofs.Nothing.{nothing_before}
 
--- what any example over a file begins with
+-- What any example over a file begins with.
 pub legal_owner : (file : View) → IsLegal small_shape file with_owner
 legal_owner file = (
   (tt, record { alive = tt; follows = tt; guard = record { nobody = refl; none_alive = λ other. refl } }),
@@ -50,7 +51,7 @@ not_queued answer is isnt = cc
 not_dead : (answer : Asked) (owner : ℕ) → answer ≡ Granted → answer ≡ Dead owner → ⊥
 not_dead answer owner is isnt = cc
 
--- what an owner is that asks in EX, what that is answered, and what it waits for then
+-- What an owner is that asks in EX, what that is answered, and what it waits for then.
 pub record Asker : Type 0 where
   pub alive : Bool
   pub wait : Option Request
@@ -68,12 +69,12 @@ asker file before owner resource word = record {
 abbrev pub free_asker : Asker
 free_asker = record { alive = true; wait = None; answer = Granted; wanted = Some Ex }
 
--- nobody else has a level that conflicts with EX
+-- Nobody else has a level that conflicts with EX.
 abbrev pub IsAlone : View → History → ℕ → Resource → Type 0
 IsAlone file before owner resource = (other : ℕ) → (other == owner) ≡ false → is_compatible Ex ((world_of small_shape file before).granted other resource) ≡ true
 
 pub legal_gets : (file : View) (before : History) (owner : ℕ) (resource : Resource) (word : ℕ) → IsLegal small_shape file before
-    → Follows before (happens owner (Ask resource Ex true word) false)
+    → ComesNext before (happens owner (Ask resource Ex true word) false)
     → asker file before owner resource word ≡ free_asker
     → GuardOfSeries (scene_of small_shape file before) owner resource.series resource.key Ex word
     → IsAlone file before owner resource
@@ -100,34 +101,34 @@ legal_gets file before owner resource word legal follows is guard alone begins =
   },
 )
 
--- what owner 1 has on a page before it asks for it, and after it got it
+-- What an owner has on a page before it asks for it, and after it got it.
 pub record Holder : Type 0 where
   pub request : Option Request
   pub copy : Option Page
   pub level : Level
   pub wait : Option Request
 
-abbrev pub holder : View → History → ℕ → Holder
-holder file before page = record {
-  request = request_of (world_of small_shape file before).locks 1 (page_resource page);
-  copy = (world_of small_shape file before).copy 1 page;
-  level = (world_of small_shape file (gets 1 (page_resource page) 0 before)).granted 1 (page_resource page);
-  wait = wait_of (world_of small_shape file (gets 1 (page_resource page) 0 before)).locks 1;
+abbrev pub holder : View → History → ℕ → ℕ → Holder
+holder file before owner page = record {
+  request = request_of (world_of small_shape file before).locks owner (page_resource page);
+  copy = (world_of small_shape file before).copy owner page;
+  level = (world_of small_shape file (gets owner (page_resource page) 0 before)).granted owner (page_resource page);
+  wait = wait_of (world_of small_shape file (gets owner (page_resource page) 0 before)).locks owner;
 }
 
 abbrev pub new_holder : Holder
 new_holder = record { request = None; copy = None; level = Ex; wait = None }
 
-pub legal_holds : (file : View) (before : History) (page : ℕ) → IsLegal small_shape file before
-    → Follows before (happens 1 (Ask (page_resource page) Ex true 0) false)
-    → asker file before 1 (page_resource page) 0 ≡ free_asker
-    → holder file before page ≡ new_holder
-    → (holdings_of (world_of small_shape file before) 1).count < (holdings_of (world_of small_shape file before) 1).buffers
-    → IsAlone file before 1 (page_resource page)
-    → IsLegal small_shape file (holds page before)
-legal_holds file before page legal follows is has room alone = (
+pub legal_holds_by : (owner : ℕ) (file : View) (before : History) (page : ℕ) → IsLegal small_shape file before
+    → ComesNext before (happens owner (Ask (page_resource page) Ex true 0) false)
+    → asker file before owner (page_resource page) 0 ≡ free_asker
+    → holder file before owner page ≡ new_holder
+    → (holdings_of (world_of small_shape file before) owner).count < (holdings_of (world_of small_shape file before) owner).buffers
+    → IsAlone file before owner (page_resource page)
+    → IsLegal small_shape file (holds_by owner page before)
+legal_holds_by owner file before page legal follows is has room alone = (
   (
-    legal_gets file before 1 (page_resource page) 0 legal follows is
+    legal_gets file before owner (page_resource page) 0 legal follows is
         (record { fresh = ap (λ (h : Holder). h.request) has; room = room })
         alone
         (λ begins. absurd cc),
@@ -144,7 +145,16 @@ legal_holds file before page legal follows is has room alone = (
   },
 )
 
--- what owner 1 is that edits a page, and whether the edit fits
+pub legal_holds : (file : View) (before : History) (page : ℕ) → IsLegal small_shape file before
+    → ComesNext before (happens 1 (Ask (page_resource page) Ex true 0) false)
+    → asker file before 1 (page_resource page) 0 ≡ free_asker
+    → holder file before 1 page ≡ new_holder
+    → (holdings_of (world_of small_shape file before) 1).count < (holdings_of (world_of small_shape file before) 1).buffers
+    → IsAlone file before 1 (page_resource page)
+    → IsLegal small_shape file (holds page before)
+legal_holds = legal_holds_by 1
+
+-- What an owner is that edits a page, and whether the edit fits.
 pub record Editor : Type 0 where
   pub alive : Bool
   pub wait : Option Request
@@ -153,29 +163,29 @@ pub record Editor : Type 0 where
   pub pinned : Bool
   pub fits : Bool
 
-abbrev pub editor : View → History → ℕ → Edit → Editor
-editor file before page edit = record {
-  alive = (world_of small_shape file before).is_alive 1;
-  wait = wait_of (world_of small_shape file before).locks 1;
-  marked = (world_of small_shape file before).marked 1;
-  level = (world_of small_shape file before).granted 1 (page_resource page);
-  pinned = (world_of small_shape file before).is_pinned 1 page;
-  fits = is_some (page_after small_shape (world_of small_shape file before) 1 page edit);
+abbrev pub editor : View → History → ℕ → ℕ → Edit → Editor
+editor file before owner page edit = record {
+  alive = (world_of small_shape file before).is_alive owner;
+  wait = wait_of (world_of small_shape file before).locks owner;
+  marked = (world_of small_shape file before).marked owner;
+  level = (world_of small_shape file before).granted owner (page_resource page);
+  pinned = (world_of small_shape file before).is_pinned owner page;
+  fits = is_some (page_after small_shape (world_of small_shape file before) owner page edit);
 }
 
 abbrev pub ready_editor : Editor
 ready_editor = record { alive = true; wait = None; marked = None; level = Ex; pinned = true; fits = true }
 
-pub legal_edits : (file : View) (before : History) (page : ℕ) (edit : Edit) → IsLegal small_shape file before
-    → Follows before (happens 1 (Local (local.Edit page edit)) false)
-    → editor file before page edit ≡ ready_editor
-    → HasBase (scene_of small_shape file before) 1 page edit
+pub legal_edits_by : (owner : ℕ) (file : View) (before : History) (page : ℕ) (edit : Edit) → IsLegal small_shape file before
+    → ComesNext before (happens owner (Local (local.Edit page edit)) false)
+    → editor file before owner page edit ≡ ready_editor
+    → HasBase (scene_of small_shape file before) owner page edit
     → IsEdit edit
-    → LeansOn (scene_of small_shape file before) 1 page edit
-    → IsNamedWhereEdited (scene_of small_shape file before) 1 page edit
-    → IsEditOfRow (scene_of small_shape file before) 1 page edit
-    → IsLegal small_shape file (edits page edit before)
-legal_edits file before page edit legal follows is base numbers leans named row = (
+    → LeansOn (scene_of small_shape file before) owner page edit
+    → IsNamedWhereEdited (scene_of small_shape file before) owner page edit
+    → IsEditOfRow (scene_of small_shape file before) owner page edit
+    → IsLegal small_shape file (edits_by owner page edit before)
+legal_edits_by owner file before page edit legal follows is base numbers leans named row = (
   legal,
   record {
     alive = ap (λ (e : Editor). e.alive) is;
@@ -195,31 +205,42 @@ legal_edits file before page edit legal follows is base numbers leans named row 
   },
 )
 
--- what owner 1 is that orders two pages
+pub legal_edits : (file : View) (before : History) (page : ℕ) (edit : Edit) → IsLegal small_shape file before
+    → ComesNext before (happens 1 (Local (local.Edit page edit)) false)
+    → editor file before 1 page edit ≡ ready_editor
+    → HasBase (scene_of small_shape file before) 1 page edit
+    → IsEdit edit
+    → LeansOn (scene_of small_shape file before) 1 page edit
+    → IsNamedWhereEdited (scene_of small_shape file before) 1 page edit
+    → IsEditOfRow (scene_of small_shape file before) 1 page edit
+    → IsLegal small_shape file (edits page edit before)
+legal_edits = legal_edits_by 1
+
+-- What an owner is that orders two pages.
 pub record Orderer : Type 0 where
   pub alive : Bool
   pub wait : Option Request
   pub drafted : Bool
   pub level : Level
 
-abbrev pub orderer : View → History → ℕ → ℕ → Orderer
-orderer file before high low = record {
-  alive = (world_of small_shape file before).is_alive 1;
-  wait = wait_of (world_of small_shape file before).locks 1;
-  drafted = is_draft_of 1 ((world_of small_shape file before).draft high);
-  level = (world_of small_shape file before).granted 1 (page_resource low);
+abbrev pub orderer : View → History → ℕ → ℕ → ℕ → Orderer
+orderer file before owner high low = record {
+  alive = (world_of small_shape file before).is_alive owner;
+  wait = wait_of (world_of small_shape file before).locks owner;
+  drafted = is_draft_of owner ((world_of small_shape file before).draft high);
+  level = (world_of small_shape file before).granted owner (page_resource low);
 }
 
 abbrev pub ready_orderer : Orderer
 ready_orderer = record { alive = true; wait = None; drafted = true; level = Ex }
 
-pub legal_orders : (file : View) (before : History) (high low : ℕ) → IsLegal small_shape file before
-    → Follows before (happens 1 (Local (local.Before high low)) false)
-    → orderer file before high low ≡ ready_orderer
+pub legal_orders_by : (owner : ℕ) (file : View) (before : History) (high low : ℕ) → IsLegal small_shape file before
+    → ComesNext before (happens owner (Local (local.Before high low)) false)
+    → orderer file before owner high low ≡ ready_orderer
     → high ≢ low
     → ¬ IsBefore (scene_of small_shape file before) low high
-    → IsLegal small_shape file (orders high low before)
-legal_orders file before high low legal follows is apart order = (
+    → IsLegal small_shape file (orders_by owner high low before)
+legal_orders_by owner file before high low legal follows is apart order = (
   legal,
   record {
     alive = ap (λ (o : Orderer). o.alive) is;
@@ -234,15 +255,23 @@ legal_orders file before high low legal follows is apart order = (
   },
 )
 
--- a write of owner 1's draft before which no page is to be written
-pub legal_writes : (file : View) (before : History) (page : ℕ) (reason : Cause) (failed landed : Bool) → IsLegal small_shape file before
-    → Follows before (happens 1 (Write page reason failed) landed)
-    → (world_of small_shape file before).is_alive 1 ≡ true
-    → is_draft_of 1 ((world_of small_shape file before).draft page) ≡ true
+pub legal_orders : (file : View) (before : History) (high low : ℕ) → IsLegal small_shape file before
+    → ComesNext before (happens 1 (Local (local.Before high low)) false)
+    → orderer file before 1 high low ≡ ready_orderer
+    → high ≢ low
+    → ¬ IsBefore (scene_of small_shape file before) low high
+    → IsLegal small_shape file (orders high low before)
+legal_orders = legal_orders_by 1
+
+-- A write of an owner's draft before which no page is to be written.
+pub legal_writes_by : (writer : ℕ) (file : View) (before : History) (page : ℕ) (reason : Cause) (failed landed : Bool) → IsLegal small_shape file before
+    → ComesNext before (happens writer (Write page reason failed) landed)
+    → (world_of small_shape file before).is_alive writer ≡ true
+    → is_draft_of writer ((world_of small_shape file before).draft page) ≡ true
     → ((owner high : ℕ) → (world_of small_shape file before).has_pair owner high page ≡ false)
-    → MeetsCause (scene_of small_shape file before) 1 page reason
-    → IsLegal small_shape file (happens 1 (Write page reason failed) landed ∷ before)
-legal_writes file before page reason failed landed legal follows alive drafted none cause = (
+    → MeetsCause (scene_of small_shape file before) writer page reason
+    → IsLegal small_shape file (happens writer (Write page reason failed) landed ∷ before)
+legal_writes_by writer file before page reason failed landed legal follows alive drafted none cause = (
   legal,
   record {
     alive = alive;
@@ -250,3 +279,12 @@ legal_writes file before page reason failed landed legal follows alive drafted n
     guard = record { drafted = drafted; first = λ high is. nothing_before (world_of small_shape file before) page none high; cause = cause };
   },
 )
+
+pub legal_writes : (file : View) (before : History) (page : ℕ) (reason : Cause) (failed landed : Bool) → IsLegal small_shape file before
+    → ComesNext before (happens 1 (Write page reason failed) landed)
+    → (world_of small_shape file before).is_alive 1 ≡ true
+    → is_draft_of 1 ((world_of small_shape file before).draft page) ≡ true
+    → ((owner high : ℕ) → (world_of small_shape file before).has_pair owner high page ≡ false)
+    → MeetsCause (scene_of small_shape file before) 1 page reason
+    → IsLegal small_shape file (happens 1 (Write page reason failed) landed ∷ before)
+legal_writes = legal_writes_by 1

@@ -1,6 +1,7 @@
 pub mod Nothing
 pub mod LegalSteps
 pub mod SmallViews
+pub mod WideViews
 pub mod Nowhere
 pub mod TakenPages
 pub mod NamedPages
@@ -14,8 +15,18 @@ pub mod Answering
 pub mod SoundFiles
 pub mod CausedWrites
 pub mod FreedNumbers
+pub mod Undrafted
+pub mod UpdatedRows
 pub mod EveryKind
 pub mod EveryForm
 pub mod Refusing
 pub mod WholePages
+pub mod SpreadFiles
+pub mod StaleFiles
 pub mod Starts
+pub mod SpreadRows
+pub mod FarVersions
+pub mod FreedNames
+pub mod StalePages
+pub mod TwoOpen
+pub mod ReopenedFiles

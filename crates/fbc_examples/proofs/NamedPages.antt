@@ -4,7 +4,7 @@ use Rattle.std.proofs.lemmas.Bool.Decides.{nat_tests}
 use Rattle.fbc_kinds.specs.declared.edits.Edit.TheVariants.{AddInventory, AddPointer, AddTip, Format}
 use Rattle.fbc_world.specs.History.{History}
 use Rattle.fbc_world.specs.World.{world_of}
-use Rattle.fbc_world.specs.WriteOrder.{StandsBefore}
+use Rattle.fbc_kinds.specs.Order.{StandsBefore}
 use Rattle.fbc_legal.specs.Leans.{IsReady}
 use Rattle.fbc_legal.specs.Legal.{IsLegal}
 use Rattle.fbc_legal.specs.Scene.{newest_after, scene_of}
@@ -24,7 +24,7 @@ legal_pointer_order =
     legal_orders new_file with_made_pointer 4 0 (legal_made 4 0 1 refl (omega arith)) tt refl (λ same. omega arith)
     (before_nothing (world_of small_shape new_file with_made_pointer) 0 (λ owner low. grind (arith, nat_tests)) 4)
 
--- page 4 is empty and in use, and all that shows this is to be written before the header
+-- Page 4 is empty and in use, and all that shows this is to be written before the header.
 pointer_ready : IsReady (scene_of small_shape new_file (orders 4 0 with_made_pointer)) 1 0 4 4 0 1
 pointer_ready = record {
   empty = record { newest = (_, refl, refl); in_time = inr (inr (refl, StandsBefore.straight 4 0 (1, refl))) };

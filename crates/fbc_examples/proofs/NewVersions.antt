@@ -13,14 +13,14 @@ use Rattle.fbc_kinds.specs.DataSpelling.{empty_cell}
 use Rattle.fbc_kinds.specs.Reach.{ReachesCell}
 use Rattle.fbc_kinds.specs.View.{is_top}
 use Rattle.fbc_world.specs.World.{world_of}
-use Rattle.fbc_world.specs.WriteOrder.{StandsBefore}
+use Rattle.fbc_kinds.specs.Order.{StandsBefore}
 use Rattle.fbc_legal.specs.Guards.{IsLeastActive, MayBegin}
 use Rattle.fbc_legal.specs.Leans.{ClearLeans, LinkLeans, PutLeans}
 use Rattle.fbc_legal.specs.Legal.{IsLegal}
 use Rattle.fbc_legal.specs.Rows.{IsBackout, IsClearing, IsMove, IsNewVersion, IsPut}
 use Rattle.fbc_legal.specs.Scene.{newest_after, number_resource, scene_of}
 use Rattle.fbc_legal.specs.Stamps.{stamp_after}
-use Rattle.fbc_views.specs.Facing.{IsLinked}
+use Rattle.fbc_page_edits.specs.Facing.{IsLinked}
 use Rattle.fbc_legal.specs.Traces.{IsMovedBy, IsUnlinkedBy}
 use Rattle.fbc_examples.specs.Files.{deletion, first_cells, header, old_value, over, relation, row_file, small_shape, value}
 use Rattle.fbc_examples.specs.Rows.{with_backout, with_cleared_move, with_deletion, with_moved_value, with_new_version, with_pages, with_rollback, with_second_begin}
@@ -33,7 +33,7 @@ use Rattle.fbc_examples.proofs.SmallViews.{not_linked, tip_is}
 abbrev pub second_transaction : Transaction
 second_transaction = record { number = 2; owner = 1; standing = standing.Open; snapshot = 2 ∷ 1 ∷ [] }
 
--- number 1 is committed
+-- Number 1 is committed.
 none_active : (other : ℕ) → 1 ≤ other → other < 2 → state_of (newest_after small_shape row_file with_pages) other ≡ Active → ⊥
 none_active other from below is =
     let one : other ≡ 1 = omega arith in
@@ -54,7 +54,7 @@ may_begin = record {
   word_is = least_is;
 }
 
--- the same once it has asked
+-- The same once it has asked.
 still_may_begin : MayBegin (scene_of small_shape row_file (asks 1 (number_resource 2) 2 with_pages)) 1 2 2
 still_may_begin = record {
   next = refl;
@@ -95,7 +95,7 @@ legal_moved_value =
     (record { pointer = 3; pointed = refl; named = refl; pointed_in_file = inl refl; named_in_file = inl refl })
     (IsPut.move move)
 
--- a version of transaction 2 over the moved value
+-- A version of transaction 2 over the moved value.
 abbrev over_moved : Flag → List ℕ → Cell
 over_moved top bytes = record { flag = top; number = 2; back_page = 4; back_cell = 1; value = bytes }
 
@@ -112,10 +112,10 @@ new_version top bytes is = record {
   own = refl;
   moved = IsMovedBy.moved _ _ (old_value 1 65) (record { actor = refl; act = refl }) refl refl;
   back = refl;
-  same_meant = refl;
+  same_meant = λ linked. refl;
 }
 
--- the moved value stands in the page itself, and the file names that page
+-- The moved value stands in the page itself, and the file names that page.
 moved_link : (top : Flag) (bytes : List ℕ) → LinkLeans (scene_of small_shape row_file with_moved_value) 1 4 0 (over_moved top bytes)
 moved_link top bytes = record {
   sequence = 0;
@@ -200,7 +200,7 @@ legal_backout =
     (record { pointer = 3; pointed = refl; named = refl; pointed_in_file = inl refl; named_in_file = inl refl })
     (IsPut.backout backout)
 
--- before the backout the new version names cell 1, and after it none does
+-- Before the backout the new version names cell 1, and after it none does.
 linked : IsLinked (newest_after small_shape row_file with_rollback) 4 1
 linked = record {
   relation = 0;

@@ -9,7 +9,7 @@ use Rattle.fbc_legal.specs.Traces.{IsNamed}
 use Rattle.fbc_examples.specs.Files.{header_page, pointer_page}
 use Rattle.fbc_examples.proofs.SmallViews.{header_names, inventory_is, named, pointer_is, pointer_names}
 
--- another page than those that a small file names
+-- Another page than those that a small file names.
 pub record IsOther (page : ℕ) : Type 0 where
   pub no_header : page ≢ 0
   pub no_inventory : page ≢ 1

@@ -5,7 +5,7 @@ use Rattle.fbc_levels.specs.declared.levels.Level.TheVariants.{Ex}
 use Rattle.fbc_world.specs.declared.asks.Ask.TheVariants as ask
 use Rattle.fbc_world.specs.declared.events.Act.TheVariants.{Die, Enter, Reap}
 use Rattle.fbc_world.specs.History.{History}
-use Rattle.fbc_world.specs.Holdings.{page_resource}
+use Rattle.fbc_levels.specs.Resources.{page_resource}
 use Rattle.fbc_world.specs.World.{world_of}
 use Rattle.fbc_legal.specs.Guards.{IsInWayOfAsk}
 use Rattle.fbc_legal.specs.Legal.{IsLegal}
@@ -122,7 +122,7 @@ legal_other =
     (λ other apart. grind (arith, nat_tests))
     (λ begins. absurd cc)
 
--- page 4 alone is pinned
+-- Page 4 alone is pinned.
 pin_is : (pin : ℕ) → (world_of small_shape new_file (gets 2 (page_resource 1) 0 with_first)).is_pinned 1 pin ≡ true → pin ≡ 4
 pin_is pin pinned = grind (arith, nat_tests, pinned)
 

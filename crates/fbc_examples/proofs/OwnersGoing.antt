@@ -7,7 +7,7 @@ use Rattle.fbc_world.specs.declared.asks.Ask.TheVariants as ask
 use Rattle.fbc_world.specs.declared.asks.Cause.TheVariants as cause
 use Rattle.fbc_world.specs.declared.events.Act.TheVariants.{Die, Enter, Opened, Read, Reap}
 use Rattle.fbc_world.specs.History.{History}
-use Rattle.fbc_world.specs.Holdings.{page_resource}
+use Rattle.fbc_levels.specs.Resources.{page_resource}
 use Rattle.fbc_world.specs.World.{world_of}
 use Rattle.fbc_legal.specs.Guards.{IsInWayOfAsk}
 use Rattle.fbc_legal.specs.Legal.{IsLegal}

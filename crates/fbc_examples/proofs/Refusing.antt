@@ -3,12 +3,12 @@ use Rattle.std.proofs.Common.{◌≡◌, ◌<◌, inl, inr, ℕ, true, false, re
 use Rattle.fbc_kinds.specs.declared.pages.Flag.TheVariants as flag
 use Rattle.fbc_kinds.specs.Reach.{ReachesCell}
 use Rattle.fbc_kinds.specs.View.{is_top}
-use Rattle.fbc_world.specs.WriteOrder.{StandsBefore}
+use Rattle.fbc_kinds.specs.Order.{StandsBefore}
 use Rattle.fbc_legal.specs.Legal.{IsLegal}
 use Rattle.fbc_legal.specs.Ranks.{IsLower, data_rank, inventory_rank}
 use Rattle.fbc_legal.specs.Rows.{IsClearing}
 use Rattle.fbc_legal.specs.Scene.{newest_after, scene_of}
-use Rattle.fbc_views.specs.Facing.{IsLinked}
+use Rattle.fbc_page_edits.specs.Facing.{IsLinked}
 use Rattle.fbc_examples.specs.Clearing.{with_both}
 use Rattle.fbc_examples.specs.Files.{empty_file, new_file, old_value, over, row_file, small_shape, value, worn_file}
 use Rattle.fbc_examples.proofs.ChangedRows.{first_transaction}
@@ -17,11 +17,11 @@ use Rattle.fbc_examples.specs.Refused.{with_downward_wait, with_early_mark, with
 no : false ≡ true → ⊥
 no is = cc
 
--- page 4 has another draft
+-- Page 4 has another draft.
 pub early_mark : IsLegal small_shape empty_file with_early_mark → ⊥
 early_mark legal = let only : ◌≡◌ {A = ℕ} 4 2 = legal.1.guard.row.3 4 refl in omega arith
 
--- the header has a draft, and stands before page 4
+-- The header has a draft, and stands before page 4.
 pub early_write : IsLegal small_shape empty_file with_early_write → ⊥
 early_write legal = legal.1.guard.first 0 refl (StandsBefore.straight 0 4 (1, refl))
 
@@ -37,7 +37,7 @@ two_holders legal = no (legal.1.guard.beside 1 (λ same. omega arith))
 pub robbed_owner : IsLegal small_shape new_file with_robbed_owner → ⊥
 robbed_owner legal = no (sym legal.1.guard.is_dead)
 
--- the row's newest version names cell 1
+-- The row's newest version names cell 1.
 linked : IsLinked (newest_after small_shape worn_file with_both) 4 1
 linked = record {
   relation = 0;
@@ -61,7 +61,7 @@ no_clearing (IsClearing.unreached old stands back unlinked) = unlinked linked
 pub torn_chain : IsLegal small_shape worn_file with_torn_chain → ⊥
 torn_chain legal = no_clearing legal.1.guard.row
 
--- the open number is not below the next
+-- The open number is not below the next.
 pub early_unpin : IsLegal small_shape empty_file with_early_unpin → ⊥
 early_unpin legal = let below : 1 < 1 = legal.1.guard refl first_transaction refl in omega arith
 

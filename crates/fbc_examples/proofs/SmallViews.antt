@@ -11,11 +11,11 @@ use Rattle.fbc_kinds.specs.Reach.{DataRole, HeaderRole, InventoryRole, NamesBack
 use Rattle.fbc_kinds.specs.View.{View, cell_at, data_of, inventory_of, inventory_page, named_in, pointer_of, tip_of, unless_zero}
 use Rattle.fbc_kinds.proofs.Heads.{both_pass}
 use Rattle.fbc_legal.specs.Facts.{Names}
-use Rattle.fbc_views.specs.Facing.{IsLinked}
+use Rattle.fbc_page_edits.specs.Facing.{IsLinked}
 use Rattle.fbc_legal.specs.Traces.{IsNamed}
 use Rattle.fbc_examples.specs.Files.{data_page, header, header_page, pointer_page, relation}
 
-one_tip : (sequence page : ℕ) → slice_get (2 ∷ []) sequence ≡ Some page → (sequence ≡ 0) × (page ≡ 2)
+pub one_tip : (sequence page : ℕ) → slice_get (2 ∷ []) sequence ≡ Some page → (sequence ≡ 0) × (page ≡ 2)
 one_tip zero page is = (refl, (let there : 2 ≡ page = cc in sym there))
 one_tip (suc sequence) page is = cc
 
@@ -23,13 +23,13 @@ named_unless : (none : Bool) (first page : ℕ) → (if none then None else Some
 named_unless true first page is = cc
 named_unless false first page is = (refl, (let there : first ≡ page = cc in sym there))
 
--- a list of one thing
+-- A list of one thing.
 pub same_at : {X : Type 0} (count : ℕ) (only : X) (place : ℕ) (found : X) → slice_get (replicate count only) place ≡ Some found → found ≡ only
 same_at zero only place found is = cc
 same_at (suc count) only zero found is = let there : only ≡ found = cc in sym there
 same_at (suc count) only (suc place) found is = same_at count only place found is
 
-no_name : (count place page : ℕ) → option_and_then unless_zero (slice_get (replicate count 0) place) ≡ Some page → ⊥
+pub no_name : (count place page : ℕ) → option_and_then unless_zero (slice_get (replicate count 0) place) ≡ Some page → ⊥
 no_name zero place page is = cc
 no_name (suc count) zero page is = cc
 no_name (suc count) (suc place) page is = no_name count place page is
@@ -92,13 +92,13 @@ module _ (view : View) (next first : ℕ) (at_header : view 0 ≡ Some (header_p
       let from = from_pointer number (sequence / 252) (sequence % 252) page (rw at_header at is) in
       (from.0, omega (arith, from.1, from.2), from.3, from.4)
 
-  -- nothing but these three is named
+  -- Nothing but these three is named.
   pub named : (page : ℕ) → IsNamed view page → (page ≡ 2) ⊎ (page ≡ 3) ⊎ (page ≡ first)
   named page (IsNamed.tip sequence is) = inl (tip_is sequence page is).1
   named page (IsNamed.pointer number sequence is) = inr (inl (pointer_is number sequence page is).2)
   named page (IsNamed.data_page number sequence is) = inr (inr (data_is number sequence page is).3)
 
--- where the pages of a small file stand
+-- Where the pages of a small file stand.
 pub data IsPlace (first : ℕ) : Role → ℕ → Type 0 where
   header_place : IsPlace first HeaderRole 0
   inventory_place : IsPlace first (InventoryRole 0) 1
@@ -106,7 +106,7 @@ pub data IsPlace (first : ℕ) : Role → ℕ → Type 0 where
   pointer_place : IsPlace first (PointerRole 0 0) 3
   data_place : (first == 0) ≡ false → IsPlace first (DataRole 0 0) first
 
-one_inventory : (sequence page : ℕ) → (if nat_lt sequence 1 then Some (inventory_page 1024 sequence) else None) ≡ Some page → (sequence ≡ 0) × (page ≡ 1)
+pub one_inventory : (sequence page : ℕ) → (if nat_lt sequence 1 then Some (inventory_page 1024 sequence) else None) ≡ Some page → (sequence ≡ 0) × (page ≡ 1)
 one_inventory zero page is = (refl, (let there : 1 ≡ page = cc in sym there))
 one_inventory (suc sequence) page is = absurd (grind (arith, nat_tests, is))
 
@@ -121,17 +121,17 @@ module _ (view : View) (next first : ℕ) (at_header : view 0 ≡ Some (header_p
   place_of (PointerRole number sequence) page is = let found = pointer_is view next first at_header at_pointer number sequence page is in rw (found.0, found.1, found.2) IsPlace.pointer_place
   place_of (DataRole number sequence) page is = let found = data_is view next first at_header at_pointer number sequence page is in rw (found.0, found.1, found.3) (IsPlace.data_place found.2)
 
--- a test that all of a list pass
+-- A test that all of a list pass.
 pub passes_at : {X : Type 0} (test : X → Bool) (xs : List X) (place : ℕ) (x : X) → list_all test xs ≡ true → slice_get xs place ≡ Some x → test x ≡ true
 passes_at test [] place x all at = cc
 passes_at test (one ∷ xs) zero x all at = let same : one ≡ x = cc in rw (← same) (both_pass (test one) (list_all test xs) all).0
 passes_at test (one ∷ xs) (suc place) x all at = passes_at test xs place x (both_pass (test one) (list_all test xs) all).1 at
 
--- whether a version names no cell of another page
+-- Whether a version names no cell of another page.
 abbrev pub stays : Cell → Bool
 stays version = (version.back_page == 0) || (version.back_page == 4)
 
--- whether a version names another cell
+-- Whether a version names another cell.
 abbrev pub spares : ℕ → Cell → Bool
 spares cell version = not ((version.back_page == 4) && (version.back_cell == cell))
 
@@ -146,14 +146,14 @@ module _ (view : View) (next : ℕ) (cells : List Cell) (at_header : view 0 ≡ 
   pub stands_in : (page cell : ℕ) (version : Cell) → page ≡ 4 → cell_at view page cell ≡ Some version → slice_get cells cell ≡ Some version
   stands_in page cell version there stands = let here : cell_at view 4 cell ≡ Some version = rw there at stands in rw at_data at here
 
-  -- cells of the data page alone are reached
+  -- Cells of the data page alone are reached.
   pub reached : (number page cell : ℕ) → ReachesCell view number page cell → (number ≡ 0) × (page ≡ 4)
   reached number page cell (ReachesCell.top sequence _ _ version is stands top) = let found = data_is view next 4 at_header at_pointer number sequence page is in (found.0, found.3)
   reached number page cell (ReachesCell.along from from_cell _ _ version before stands names) =
       let held = reached number from from_cell before in
       (held.0, back_at version page cell (passes_at stays cells from_cell version near (stands_in from from_cell version held.1 stands)) names)
 
-  -- a cell that no version names is not linked
+  -- A cell that no version names is not linked.
   pub not_linked : (cell : ℕ) → list_all (spares cell) cells ≡ true → IsLinked view 4 cell → ⊥
   not_linked cell all linked =
       not_spared linked.version cell

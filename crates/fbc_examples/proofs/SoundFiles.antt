@@ -13,10 +13,43 @@ use Rattle.fbc_kinds.specs.Reach.{DataRole, LinksTo, ReachesCell, Reaches, Role,
 use Rattle.fbc_kinds.specs.Sound.{IsBackValue, IsSound}
 use Rattle.fbc_kinds.specs.View.{View, cell_at, is_active_state, is_back, is_committed_state, is_empty, is_taken, state_in}
 use Rattle.fbc_kinds.proofs.Roles.{reached_once}
-use Rattle.fbc_examples.specs.Files.{data_file, deletion, empty_file, first_cells, new_file, old_value, over, row_file, value, worn_cells, worn_file}
+use Rattle.fbc_examples.specs.Files.{data_file, deletion, empty_file, first_cells, header_page, new_file, old_value, over, pointer_page, row_file, tip_page, value, worn_cells, worn_file}
 use Rattle.fbc_examples.proofs.SmallViews.{IsPlace, data_is, passes_at, place_of, reached, stands_in, stays, same_at, tip_is}
 
--- each page of a file without data pages is what it is named for, and is taken
+-- Behind these states all are active.
+pub active_behind : (count place : ℕ) (state : State) → slice_get (replicate count Active) place ≡ Some state → is_active_state state ≡ false → ⊥
+active_behind count place state at over = let same = same_at count Active place state at in let active : is_active_state Active ≡ false = rw same at over in cc
+
+-- A file without data pages is sound whose pages are what they are named for, and taken.
+module _ (view : View) (at_header : view 0 ≡ Some (header_page 1)) (at_tip : view 2 ≡ Some (tip_page [])) (at_pointer : view 3 ≡ Some (pointer_page 0))
+    (fits : (role : Role) (page : ℕ) → IsPlace 0 role page → (shows_role role page (view page) ≡ true) × (is_taken view page ≡ true)) where
+  bare_reached : (role : Role) (page : ℕ) → Reaches view role page → (shows_role role page (view page) ≡ true) × (is_taken view page ≡ true)
+  bare_reached role page is = fits role page (place_of view 1 0 at_header at_pointer role page is)
+
+  no_data : (number sequence page : ℕ) → Reaches view (DataRole number sequence) page → ⊥
+  no_data number sequence page is = let some = (data_is view 1 0 at_header at_pointer number sequence page is).2 in absurd cc
+
+  no_cell : (number page cell : ℕ) → ReachesCell view number page cell → ⊥
+  no_cell number page cell (ReachesCell.top sequence _ _ version is stands top) = no_data number sequence page is
+  no_cell number page cell (ReachesCell.along from from_cell _ _ version before stands names) = no_cell number from from_cell before
+
+  none_over : (sequence page place : ℕ) (state : State) → Reaches view (TipRole sequence) page → state_in (view page) place ≡ Some state → is_active_state state ≡ false → ⊥
+  none_over sequence page place state is at over =
+      let here : state_in (view 2) place ≡ Some state = rw (tip_is view 1 0 at_header at_pointer sequence page is).1 at at in
+      active_behind 4032 place state (rw at_tip at here) over
+
+  pub sound_bare : IsSound view
+  sound_bare = record {
+    fitting = λ role page is. (bare_reached role page is).0;
+    taken = λ role page is. (bare_reached role page is).1;
+    once = reached_once view (λ role page is. (bare_reached role page is).0);
+    back = λ number page cell back_page back_cell version links. absurd (no_cell number page cell links.reached);
+    back_once = λ number page cell other_number other_page other_cell back_page back_cell version other links others. absurd (no_cell number page cell links.reached);
+    numbers = λ number sequence page cell version is stands some. absurd (no_data number sequence page is);
+    states = λ sequence page place state is at over. absurd (none_over sequence page place state is at over);
+    below = λ number page cell back_page back_cell version back links stands. absurd (no_cell number page cell links.reached);
+  }
+
 new_fits : (role : Role) (page : ℕ) → IsPlace 0 role page → (shows_role role page (new_file page) ≡ true) × (is_taken new_file page ≡ true)
 new_fits role page IsPlace.header_place = (refl, refl)
 new_fits role page IsPlace.inventory_place = (refl, refl)
@@ -24,38 +57,14 @@ new_fits role page IsPlace.tip_place = (refl, refl)
 new_fits role page IsPlace.pointer_place = (refl, refl)
 new_fits role page (IsPlace.data_place some) = cc
 
-new_reached : (role : Role) (page : ℕ) → Reaches new_file role page → (shows_role role page (new_file page) ≡ true) × (is_taken new_file page ≡ true)
-new_reached role page is = new_fits role page (place_of new_file 1 0 refl refl role page is)
-
-no_data : (number sequence page : ℕ) → Reaches new_file (DataRole number sequence) page → ⊥
-no_data number sequence page is = let some = (data_is new_file 1 0 refl refl number sequence page is).2 in absurd cc
-
-no_cell : (number page cell : ℕ) → ReachesCell new_file number page cell → ⊥
-no_cell number page cell (ReachesCell.top sequence _ _ version is stands top) = no_data number sequence page is
-no_cell number page cell (ReachesCell.along from from_cell _ _ version before stands names) = no_cell number from from_cell before
-
--- behind these states all are active
-active_behind : (count place : ℕ) (state : State) → slice_get (replicate count Active) place ≡ Some state → is_active_state state ≡ false → ⊥
-active_behind count place state at over = let same = same_at count Active place state at in let active : is_active_state Active ≡ false = rw same at over in cc
-
 pub sound_new : IsSound new_file
-sound_new = record {
-  fitting = λ role page is. (new_reached role page is).0;
-  taken = λ role page is. (new_reached role page is).1;
-  once = reached_once new_file (λ role page is. (new_reached role page is).0);
-  back = λ number page cell back_page back_cell version links. absurd (no_cell number page cell links.reached);
-  back_once = λ number page cell other_number other_page other_cell back_page back_cell version other links others. absurd (no_cell number page cell links.reached);
-  numbers = λ number sequence page cell version is stands some. absurd (no_data number sequence page is);
-  states = λ sequence page place state is at over.
-      absurd (active_behind 4032 place state (rw (tip_is new_file 1 0 refl refl sequence page is).1 at at) over);
-  below = λ number page cell back_page back_cell version back links stands. absurd (no_cell number page cell links.reached);
-}
+sound_new = sound_bare new_file refl refl refl new_fits
 
--- whether the number of a version is below the next
-abbrev is_below : ℕ → Cell → Bool
+-- Whether the number of a version is below the next.
+abbrev pub is_below : ℕ → Cell → Bool
 is_below next version = nat_lt version.number next
 
--- the back version of a version, a committed value of a smaller number, stands in the next cell
+-- The back version of a version, a committed value of a smaller number, stands in the next cell.
 record IsOverNext (next : ℕ) (states : List State) (cells : List Cell) (cell : ℕ) (version : Cell) : Type 0 where
   page_is : version.back_page ≡ 4
   cell_is : version.back_cell ≡ suc cell
@@ -65,7 +74,7 @@ record IsOverNext (next : ℕ) (states : List State) (cells : List Cell) (cell :
   smaller : back.number < version.number
   committed : is_committed_state (state_of (data_file next states cells) back.number) ≡ true
 
--- what makes a file with one data page sound
+-- What makes a file with one data page sound.
 record IsGood (next : ℕ) (states : List State) (cells : List Cell) : Type 0 where
   near : list_all stays cells ≡ true
   low : list_all (is_below next) cells ≡ true
@@ -86,7 +95,7 @@ module _ (next : ℕ) (states : List State) (cells : List Cell) (good : IsGood n
   data_reached : (role : Role) (page : ℕ) → Reaches view role page → (shows_role role page (view page) ≡ true) × (is_taken view page ≡ true)
   data_reached role page is = data_fits role page (place_of view next 4 refl refl role page is)
 
-  -- a version that names a back version stands in the one data page, over the next cell
+  -- A version that names a back version stands in the one data page, over the next cell.
   record IsOver (number page cell back_page back_cell : ℕ) (version : Cell) : Type 0 where
     only : number ≡ 0
     here : page ≡ 4
@@ -154,8 +163,8 @@ module _ (next : ℕ) (states : List State) (cells : List Cell) (good : IsGood n
     below = data_below;
   }
 
--- empty cells name no back version
-none_behind : (count place : ℕ) (version : Cell) → slice_get (replicate count empty_cell) place ≡ Some version → (version.back_page == 0) ≡ false → ⊥
+-- Empty cells name no back version.
+pub none_behind : (count place : ℕ) (version : Cell) → slice_get (replicate count empty_cell) place ≡ Some version → (version.back_page == 0) ≡ false → ⊥
 none_behind count place version at some =
     let same = same_at count empty_cell place version at in let none : (empty_cell.back_page == 0) ≡ false = rw same at some in cc
 
@@ -191,7 +200,7 @@ worn_states (suc (suc zero)) state at over = omega arith
 worn_states (suc (suc (suc zero))) state at over = omega arith
 worn_states (suc (suc (suc (suc place)))) state at over = absurd (active_behind 4028 place state at over)
 
-plain : (one version : Cell) → one ≡ version → one.back_page ≡ 0 → (version.back_page == 0) ≡ false → ⊥
+pub plain : (one version : Cell) → one ≡ version → one.back_page ≡ 0 → (version.back_page == 0) ≡ false → ⊥
 plain one version same none some = let left : (one.back_page == 0) ≡ false = rw (← same) at some in let zero_page : (0 == 0) ≡ false = rw none at left in cc
 
 worn_links : (cell : ℕ) (version : Cell) → slice_get worn_cells cell ≡ Some version → (version.back_page == 0) ≡ false

@@ -4,8 +4,10 @@ use Rattle.fbc_kinds.specs.declared.pages.Relation.{Relation}
 use Rattle.fbc_kinds.specs.Edits.{IsShape, value_length}
 use Rattle.fbc_kinds.specs.Sound.{IsSound}
 use Rattle.fbc_kinds.specs.View.{View, relation_of}
-use Rattle.fbc_examples.specs.Files.{IsStart, empty_file, new_file, row_file, small_shape, worn_file}
+use Rattle.fbc_examples.specs.Files.{IsStart, empty_file, new_file, row_file, small_shape, spread_file, stale_file, worn_file}
 use Rattle.fbc_examples.proofs.SoundFiles.{sound_empty, sound_new, sound_row, sound_worn}
+use Rattle.fbc_examples.proofs.SpreadFiles.{sound_spread, whole_spread_file}
+use Rattle.fbc_examples.proofs.StaleFiles.{sound_stale, whole_stale_file}
 use Rattle.fbc_examples.proofs.WholePages.{HasWholePages, whole_empty_file, whole_new_file, whole_row_file, whole_worn_file}
 
 small : IsShape small_shape
@@ -37,6 +39,14 @@ lengths_worn : HaveLengths worn_file
 lengths_worn zero entry is = cc
 lengths_worn (suc relation) entry is = cc
 
+lengths_spread : HaveLengths spread_file
+lengths_spread zero entry is = cc
+lengths_spread (suc relation) entry is = cc
+
+lengths_stale : HaveLengths stale_file
+lengths_stale zero entry is = cc
+lengths_stale (suc relation) entry is = cc
+
 pub start_new : IsStart small_shape new_file
 start_new = start new_file whole_new_file lengths_new sound_new
 
@@ -48,3 +58,9 @@ start_row = start row_file whole_row_file lengths_row sound_row
 
 pub start_worn : IsStart small_shape worn_file
 start_worn = start worn_file whole_worn_file lengths_worn sound_worn
+
+pub start_spread : IsStart small_shape spread_file
+start_spread = start spread_file whole_spread_file lengths_spread sound_spread
+
+pub start_stale : IsStart small_shape stale_file
+start_stale = start stale_file whole_stale_file lengths_stale sound_stale

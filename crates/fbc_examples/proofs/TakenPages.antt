@@ -10,7 +10,7 @@ use Rattle.fbc_kinds.specs.Limits.{number_limit}
 use Rattle.fbc_kinds.specs.View.{is_empty}
 use Rattle.fbc_world.specs.History.{History}
 use Rattle.fbc_world.specs.World.{world_of}
-use Rattle.fbc_world.specs.WriteOrder.{StandsBefore}
+use Rattle.fbc_kinds.specs.Order.{StandsBefore}
 use Rattle.fbc_legal.specs.Leans.{IsInUse, IsReady, UnnameLeans}
 use Rattle.fbc_legal.specs.Legal.{IsLegal}
 use Rattle.fbc_legal.specs.Scene.{newest_after, scene_of}
@@ -43,21 +43,21 @@ legal_taken_page =
 pub other_page : IsOther 4
 other_page = record { no_header = λ is. omega arith; no_inventory = λ is. omega arith; no_tip = λ is. omega arith; no_pointer = λ is. omega arith }
 
--- the page inventory, which is to be written before page 4, shows that page as taken
+-- The page inventory, which is to be written before page 4, shows that page as taken.
 in_use : IsInUse (scene_of small_shape new_file with_taken_page) 1 4 4
 in_use = record {
   taken = record { newest = refl; in_time = inr (inr (refl, StandsBefore.straight 1 4 (1, refl))) };
   counted = record { newest = (header 1, refl, omega arith); in_time = inr (inl (header 1, refl, omega arith)) };
 }
 
--- page 4 is named nowhere since it was taken
+-- Page 4 is named nowhere since it was taken.
 still_taken : IsTakenBy small_shape new_file 1 4 with_taken_page
 still_taken =
     IsTakenBy.still _ _ (IsTakenBy.taken _ _ (record { actor = refl; act = refl }))
     (λ owner is. cc)
     (not_named (newest_after small_shape new_file with_taken_page) 1 4 other_page refl refl)
 
--- page 4 may be made a page of any kind but the page inventory's
+-- Page 4 may be made a page of any kind but the page inventory's.
 pub legal_made : (kind relation sequence : ℕ) → is_some (formatted small_shape kind 4 relation sequence) ≡ true → sequence < number_limit
     → IsLegal small_shape new_file (edits 4 (Format kind 4 relation sequence) with_taken_page)
 legal_made kind relation sequence fits few =
@@ -78,7 +78,7 @@ legal_order =
     legal_orders new_file formatted_page 4 3 (legal_made 5 0 0 refl (omega arith)) tt refl (λ same. omega arith)
     (before_nothing (world_of small_shape new_file formatted_page) 3 (λ owner low. grind (arith, nat_tests)) 4)
 
--- page 4 is empty and in use, and all that shows this is to be written before the pointer page
+-- Page 4 is empty and in use, and all that shows this is to be written before the pointer page.
 ready : IsReady (scene_of small_shape new_file (orders 4 3 formatted_page)) 1 3 4 5 0 0
 ready = record {
   empty = record { newest = (_, refl, refl); in_time = inr (inr (refl, StandsBefore.straight 4 3 (1, refl))) };
@@ -91,8 +91,8 @@ ready = record {
 pub legal_data_page : IsLegal small_shape new_file with_data_page
 legal_data_page = legal_edits new_file (orders 4 3 formatted_page) 3 (Name 0 4) legal_order tt refl refl (omega arith) ready tt refl
 
--- all cells of an empty page are empty
-all_empty : (count place : ℕ) (cell : Cell) → slice_get (replicate count empty_cell) place ≡ Some cell → is_empty cell.flag ≡ true
+-- All cells of an empty page are empty.
+pub all_empty : (count place : ℕ) (cell : Cell) → slice_get (replicate count empty_cell) place ≡ Some cell → is_empty cell.flag ≡ true
 all_empty zero place cell at = cc
 all_empty (suc count) zero cell at = let same : empty_cell ≡ cell = cc in rw (← same) refl
 all_empty (suc count) (suc place) cell at = all_empty count place cell at

@@ -20,18 +20,18 @@ use Rattle.fbc_kinds.specs.Limits.{number_limit}
 use Rattle.fbc_examples.specs.Files.{data_file, data_page, deletion, empty_file, first_cells, header, header_page, inventory_page, new_file, old_value, over, pointer_page, relation, row_file, small_shape, tip_page, value, worn_cells, worn_file}
 use Rattle.fbc_examples.proofs.SmallViews.{one_relation, passes_at}
 
--- each page of a file is within its limits, and stands under its own number
+-- Each page of a file is within its limits, and stands under its own number.
 abbrev pub HasWholePages : Shape → View → Type 0
 HasWholePages shape file = (number : ℕ) (content : Page) → file number ≡ Some content → IsWithinLimits shape content × (stands_under number content ≡ true)
 
 first_place : (i : ℕ) → i < 1 → i ≡ 0
 first_place i below = omega arith
 
-abbrev Fits : ℕ → Page → Type 0
+abbrev pub Fits : ℕ → Page → Type 0
 Fits number content = IsWithinLimits small_shape content × (stands_under number content ≡ true)
 
--- pages behind the last are blank
-in_place : (number : ℕ) (content : Page) (place : Option Page) → ((page : Page) → place ≡ Some page → Fits number page) → Some (unwrap_or place kind.Blank) ≡ Some content → Fits number content
+-- Pages behind the last are blank.
+pub in_place : (number : ℕ) (content : Page) (place : Option Page) → ((page : Page) → place ≡ Some page → Fits number page) → Some (unwrap_or place kind.Blank) ≡ Some content → Fits number content
 in_place number content None each same = rw (← same_Some kind.Blank content same) (tt, refl)
 in_place number content (Some page) each same = rw (← same_Some page content same) (each page refl)
 
@@ -45,7 +45,7 @@ whole_relation = record {
   pointers = λ i below. rw (first_place i below) (record { names = omega arith; below = omega arith });
 }
 
-whole_header : (next : ℕ) → 1 ≤ next → next ≤ 4032 → IsHeader 1024 (header next)
+pub whole_header : (next : ℕ) → 1 ≤ next → next ≤ 4032 → IsHeader 1024 (header next)
 whole_header next from to = record {
   page_size = refl;
   next_from = from;
@@ -63,15 +63,15 @@ whole_header next from to = record {
   oldest = refl;
 }
 
--- whether a number is not in limbo
-abbrev is_settled : State → Bool
+-- Whether a number is not in limbo.
+abbrev pub is_settled : State → Bool
 is_settled state.Limbo = false
 is_settled _ = true
 
-no_limbo : (states : List State) → list_all is_settled states ≡ true → (i : ℕ) → slice_get states i ≡ Some Limbo → ⊥
+pub no_limbo : (states : List State) → list_all is_settled states ≡ true → (i : ℕ) → slice_get states i ≡ Some Limbo → ⊥
 no_limbo states all i at = let settled : is_settled Limbo ≡ true = passes_at is_settled states i Limbo all at in cc
 
-whole_new : (number : ℕ) (page : Page) → slice_get (header_page 1 ∷ inventory_page 4 ∷ tip_page [] ∷ pointer_page 0 ∷ []) number ≡ Some page → Fits number page
+pub whole_new : (number : ℕ) (page : Page) → slice_get (header_page 1 ∷ inventory_page 4 ∷ tip_page [] ∷ pointer_page 0 ∷ []) number ≡ Some page → Fits number page
 whole_new zero page at = rw (← same_Some _ page at) (whole_header 1 (omega arith) (omega arith), refl)
 whole_new (suc zero) page at = rw (← same_Some _ page at) (record { page = omega arith; sequence = omega arith; count = refl; own = λ same. refl; header = λ same. refl }, refl)
 whole_new (suc (suc zero)) page at =
@@ -93,7 +93,7 @@ pub whole_new_file : HasWholePages small_shape new_file
 whole_new_file number content is =
     in_place number content (slice_get (header_page 1 ∷ inventory_page 4 ∷ tip_page [] ∷ pointer_page 0 ∷ []) number) (whole_new number) is
 
--- what makes the pages of a file with one data page whole
+-- What makes the pages of a file with one data page whole.
 record IsWhole (next : ℕ) (states : List State) (cells : List Cell) : Type 0 where
   from : 1 ≤ next
   to : next ≤ 4032
@@ -132,17 +132,17 @@ module _ (next : ℕ) (states : List State) (cells : List Cell) (whole : IsWhole
   whole_file : HasWholePages small_shape (data_file next states cells)
   whole_file number content is = in_place number content (slice_get pages number) (whole_data number) is
 
--- empty cells, and the versions of the files
-none_there : (count : ℕ) → All (IsCell 10) (replicate count empty_cell)
+-- Empty cells, and the versions of the files.
+pub none_there : (count : ℕ) → All (IsCell 10) (replicate count empty_cell)
 none_there count = All-replicate (IsCell 10) count empty_cell refl
 
-version_fits : (version : Cell) → 0 < version.number → version.number < 5 → version.back_page < 5 → version.back_cell < 5 → (version.back_page ≡ 0 → version.back_cell ≡ 0) → IsVersion version
+pub version_fits : (version : Cell) → 0 < version.number → version.number < 5 → version.back_page < 6 → version.back_cell < 5 → (version.back_page ≡ 0 → version.back_cell ≡ 0) → IsVersion version
 version_fits version some few near low none = record { numbered = some; number_fits = omega arith; back_page_fits = omega arith; back_cell_fits = omega arith; back = none }
 
-value_fits : (number byte : ℕ) → 0 < number → number < 5 → IsCell 10 (value number byte)
+pub value_fits : (number byte : ℕ) → 0 < number → number < 5 → IsCell 10 (value number byte)
 value_fits number byte some few = (version_fits (value number byte) some few (omega arith) (omega arith) (λ none. refl), omega arith, omega arith)
 
-old_value_fits : (number byte : ℕ) → 0 < number → number < 5 → IsCell 10 (old_value number byte)
+pub old_value_fits : (number byte : ℕ) → 0 < number → number < 5 → IsCell 10 (old_value number byte)
 old_value_fits number byte some few = (version_fits (old_value number byte) some few (omega arith) (omega arith) (λ none. refl), omega arith, omega arith)
 
 pub whole_empty_file : HasWholePages small_shape empty_file

@@ -15,7 +15,7 @@ use Rattle.fbc_legal.specs.Legal.{IsLegal}
 use Rattle.fbc_legal.specs.Rows.{IsClearing, IsCut, IsPut, IsSettled}
 use Rattle.fbc_legal.specs.Scene.{newest_after, number_resource, scene_of}
 use Rattle.fbc_legal.specs.Stamps.{stamp_after}
-use Rattle.fbc_views.specs.Facing.{IsLinked}
+use Rattle.fbc_page_edits.specs.Facing.{IsLinked}
 use Rattle.fbc_legal.specs.Traces.{IsUnlinkedBy}
 use Rattle.fbc_examples.specs.Clearing.{with_both, with_cleared_back, with_cleared_deletion, with_cleared_oldest, with_cleared_row, with_cut, with_dead_mark, with_dead_number, with_old_cut, with_written_mark}
 use Rattle.fbc_examples.specs.Files.{deletion, first_cells, header, old_value, over, small_shape, value, worn_file}
@@ -28,7 +28,7 @@ legal_both =
     let one = legal_holds worn_file with_owner 4 (legal_owner worn_file) tt refl refl (omega arith) (λ other apart. refl) in
     legal_holds worn_file (holds 4 with_owner) 2 one tt refl refl (omega arith) (λ other apart. rw apart refl)
 
--- no owner has an open transaction
+-- No owner has an open transaction.
 none_open : (other : ℕ) (is_first : Bool) → (other == 1) ≡ is_first → (world_of small_shape worn_file with_both).transaction other ≡ None
 none_open other true is = rw is refl
 none_open other false is = rw is refl
@@ -41,7 +41,7 @@ none_open_later : (other : ℕ) (is_first : Bool) → (other == 1) ≡ is_first 
 none_open_later other true is = rw is refl
 none_open_later other false is = rw is refl
 
--- the newest version of the row leads to the one below it
+-- The newest version of the row leads to the one below it.
 top_reached : ReachesCell (newest_after small_shape worn_file with_both) 0 4 0
 top_reached = ReachesCell.top 0 4 0 (over 1 (value 3 67)) refl refl refl
 
@@ -92,7 +92,7 @@ legal_old_cut =
     (record { pointer = 3; pointed = refl; named = refl; pointed_in_file = inl refl; named_in_file = inl refl })
     (IsPut.cut old_cut)
 
--- before that cut cell 2 is named from cell 1, and after it by none
+-- Before that cut cell 2 is named from cell 1, and after it by none.
 oldest_linked : IsLinked (newest_after small_shape worn_file with_both) 4 2
 oldest_linked = record {
   relation = 0;
@@ -152,7 +152,7 @@ legal_cut =
     (record { pointer = 3; pointed = refl; named = refl; pointed_in_file = inl refl; named_in_file = inl refl })
     (IsPut.cut top_cut)
 
--- before that cut the newest version names cell 1, and after it none does
+-- Before that cut the newest version names cell 1, and after it none does.
 linked : IsLinked (newest_after small_shape worn_file with_cleared_oldest) 4 1
 linked = record {
   relation = 0;

@@ -12,7 +12,7 @@ use Rattle.fbc_kinds.specs.declared.shapes.Shape.{Shape}
 use Rattle.fbc_kinds.specs.DataSpelling.{empty_cell}
 use Rattle.fbc_kinds.specs.File.{stands_under}
 use Rattle.fbc_kinds.specs.Sound.{IsSound}
-use Rattle.fbc_views.specs.Edited.{IsOfShape}
+use Rattle.fbc_page_edits.specs.Edited.{IsOfShape}
 use Rattle.fbc_kinds.specs.View.{View}
 
 -- A file of one relation, whose values have at most 10 bytes.
@@ -59,6 +59,27 @@ new_file = file_of (header_page 1 ∷ inventory_page 4 ∷ tip_page [] ∷ point
 abbrev pub data_file : ℕ → List State → List Cell → View
 data_file next states cells = file_of (header_page next ∷ inventory_page 5 ∷ tip_page states ∷ pointer_page 4 ∷ data_page cells ∷ [])
 
+-- The pointer page that names pages 4 and 5 as the first two data pages.
+abbrev pub wide_pointer_page : Page
+wide_pointer_page = page.Pointer (record { page = 3; relation = 0; sequence = 0; slots = 4 ∷ 5 ∷ replicate 250 0 })
+
+-- The second data page, which is page 5, with these cells.
+abbrev pub second_data_page : List Cell → Page
+second_data_page cells = page.Data (record { page = 5; relation = 0; sequence = 1; cells = cells })
+
+-- A file with two data pages.
+abbrev pub wide_file : ℕ → List State → List Cell → List Cell → View
+wide_file next states cells others =
+    file_of (header_page next ∷ inventory_page 6 ∷ tip_page states ∷ wide_pointer_page ∷ data_page cells ∷ second_data_page others ∷ [])
+
+-- A pointer page on page 5, by which page 4 would be a data page.
+abbrev pub stale_pointer_page : Page
+stale_pointer_page = page.Pointer (record { page = 5; relation = 0; sequence = 1; slots = 4 ∷ replicate 251 0 })
+
+-- A file without data pages, in which that pointer page stands where nothing names it. Pages 4 and 5 are free.
+abbrev pub stale_file : View
+stale_file = file_of (header_page 1 ∷ inventory_page 4 ∷ tip_page [] ∷ pointer_page 0 ∷ page.Blank ∷ stale_pointer_page ∷ [])
+
 -- A value of one byte that a transaction made, without a version before it.
 abbrev pub value : ℕ → ℕ → Cell
 value number byte = record { flag = flag.Primary; number = number; back_page = 0; back_cell = 0; value = byte ∷ [] }
@@ -70,6 +91,10 @@ old_value number byte = record { flag = flag.Back; number = number; back_page = 
 -- A version over the one in this cell of page 4.
 abbrev pub over : ℕ → Cell → Cell
 over cell version = record version { back_page = 4; back_cell = cell }
+
+-- A version over the one in this cell of page 5.
+abbrev pub over_far : ℕ → Cell → Cell
+over_far cell version = record version { back_page = 5; back_cell = cell }
 
 -- A deletion by a transaction.
 abbrev pub deletion : ℕ → Cell
@@ -94,6 +119,17 @@ worn_cells = first_cells (over 1 (value 3 67) ∷ over 2 (old_value 2 66) ∷ ol
 -- Transactions 1 to 3 are committed, and transaction 4 died.
 abbrev pub worn_file : View
 worn_file = data_file 5 (Active ∷ Committed ∷ Committed ∷ Committed ∷ []) worn_cells
+
+-- A row of three versions whose older ones stand on the second data page, and a row of one version.
+abbrev pub spread_cells : List Cell
+spread_cells = first_cells (over_far 0 (value 3 67) ∷ value 3 68 ∷ [])
+
+abbrev pub spread_others : List Cell
+spread_others = first_cells (over_far 1 (old_value 2 66) ∷ old_value 1 65 ∷ [])
+
+-- Transactions 1 to 3 are committed.
+abbrev pub spread_file : View
+spread_file = wide_file 4 (Active ∷ Committed ∷ Committed ∷ Committed ∷ []) spread_cells spread_others
 
 -- Each page of a file stands under its own number.
 abbrev pub HasOwnNumbers : View → Type 0

@@ -5,6 +5,10 @@ pub mod Rows
 pub mod Clearing
 pub mod Owners
 pub mod Writing
+pub mod Updates
+pub mod Spread
+pub mod Unnaming
+pub mod Survivors
 pub mod Kinds
 pub mod Forms
 pub mod Refused

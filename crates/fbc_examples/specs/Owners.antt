@@ -8,7 +8,7 @@ use Rattle.fbc_world.specs.declared.asks.Cause.TheVariants.{Commit}
 use Rattle.fbc_world.specs.declared.events.Act.TheVariants.{Ask, Die, Enter, Grant, Leave, Least, Local, Look, Lower, Note, Opened, Poll, Read, Reap, Withdraw, Write}
 use Rattle.fbc_world.specs.declared.events.LocalEvent.TheVariants as local
 use Rattle.fbc_world.specs.History.{History, happens}
-use Rattle.fbc_world.specs.Holdings.{page_resource}
+use Rattle.fbc_levels.specs.Resources.{page_resource}
 use Rattle.fbc_examples.specs.Steps.{asks, does, edits, gets, holds, relation_resource, with_owner}
 
 -- Owners 1 and 2 come, and owner 1 gets the page inventory.

@@ -6,7 +6,7 @@ use Rattle.fbc_world.specs.declared.asks.Ask.TheVariants as ask
 use Rattle.fbc_world.specs.declared.events.Act.TheVariants.{Enter, Grant, Local, Lower, Reap}
 use Rattle.fbc_world.specs.declared.events.LocalEvent.TheVariants as local
 use Rattle.fbc_world.specs.History.{History}
-use Rattle.fbc_world.specs.Holdings.{page_resource}
+use Rattle.fbc_levels.specs.Resources.{page_resource}
 use Rattle.fbc_examples.specs.Clearing.{with_both}
 use Rattle.fbc_examples.specs.Owners.{with_draft, with_waiter}
 use Rattle.fbc_examples.specs.Rows.{with_changed_row, with_pages}

@@ -6,7 +6,7 @@ use Rattle.fbc_world.specs.declared.asks.Cause.TheVariants as cause
 use Rattle.fbc_world.specs.declared.events.Act.TheVariants.{Ask, Enter, Grant, Local, Lower, Opened, Poll, Read, Write}
 use Rattle.fbc_world.specs.declared.events.LocalEvent.TheVariants as local
 use Rattle.fbc_world.specs.History.{History}
-use Rattle.fbc_world.specs.Holdings.{page_resource}
+use Rattle.fbc_levels.specs.Resources.{page_resource}
 use Rattle.fbc_legal.specs.Scene.{number_resource}
 use Rattle.fbc_examples.specs.Owners.{with_draft}
 use Rattle.fbc_examples.specs.Pages.{with_taken_page}

@@ -5,7 +5,7 @@ ghost use Rattle.fbc_legal.specs.Legal.{IsLegal};
 ghost use Rattle.fbc_examples.specs.Files.{new_file, small_shape};
 ghost use Rattle.fbc_examples.specs.Owners.{with_busy_ask, with_circle, with_failed_write, with_full_ask, with_full_table, with_given_up, with_leave, with_reaped_holder, with_reaped_owner, with_upward_wait};
 ghost use Rattle.fbc_examples.specs.Steps.{relation_resource};
-ghost use Rattle.fbc_world.specs.Holdings.{page_resource};
+ghost use Rattle.fbc_levels.specs.Resources.{page_resource};
 ghost use Rattle.fbc_world.specs.Locks.{waiting};
 
 /// An owner waits, looks, withdraws and goes. One that has a page pinned waits for another, which

@@ -8,7 +8,7 @@ use Rattle.fbc_kinds.specs.declared.pages.Page.{Page}
 use Rattle.fbc_kinds.specs.declared.pages.Page.TheVariants as kind
 use Rattle.fbc_kinds.specs.declared.shapes.Shape.{Shape}
 use Rattle.fbc_kinds.specs.File.{IsFile, page_bytes}
-use Rattle.fbc_kinds.specs.HeaderSpelling.{HasShape, IsShape, ShowsShape, broken_file}
+use Rattle.fbc_kinds.specs.HeaderSpelling.{HasShape, IsFileShape, ShowsShape, broken_file}
 use Rattle.fbc_kinds.specs.Limits.{IsPageSize}
 use Rattle.fbc_kinds.specs.Padding.{padded}
 use Rattle.fbc_kinds.proofs.ShapeReading.{broken_file-long}
@@ -16,9 +16,9 @@ use Rattle.fbc_files.specs.Pages.{ShowsPages, listed_view}
 use Rattle.fbc_files.specs.Shapes.{BeginsWith, shape_of}
 use Rattle.fbc_files.proofs.PageWrites.{IsViewOf-listed}
 use Rattle.fbc_files.proofs.Recognition.{beginning_passes, long_page}
-use Rattle.fbc_files.proofs.ShownShapes.{Agrees-shown, HasShape-agrees, IsShape-agrees, ShowsShape-shape_of, shown_limit}
+use Rattle.fbc_files.proofs.ShownShapes.{Agrees-shown, HasShape-agrees, IsFileShape-agrees, ShowsShape-shape_of, shown_limit}
 
-pub first_bytes : (size : ℕ) (bytes : List ℕ) → 1024 ≤ size → size ≤ length bytes → take 1024 (page_bytes size bytes 0) ≡ take 1024 bytes
+pub first_bytes : (size : ℕ) (bytes : List ℕ) → 1024 ≤ size → 1024 ≤ length bytes → take 1024 (page_bytes size bytes 0) ≡ take 1024 bytes
 first_bytes size bytes wide long =
     let start : 0 * size ≡ 0 = omega arith in
     ap (λ (n : ℕ). take 1024 (padded size (take size (drop n bytes)))) start
@@ -30,7 +30,7 @@ module _ (header : Header) (bytes : List ℕ) (begins : BeginsWith header bytes)
   long = omega (arith, begins.whole, mul-le-mul_left header.size begins.some)
 
   first : take 1024 (page_bytes header.size bytes 0) ≡ take 1024 bytes
-  first = first_bytes header.size bytes (long_page header.size begins.size) long
+  first = first_bytes header.size bytes (long_page header.size begins.size) (omega (arith, long, long_page header.size begins.size))
 
   whole : length bytes % header.size ≡ 0
   whole =
@@ -46,15 +46,15 @@ module _ (header : Header) (bytes : List ℕ) (begins : BeginsWith header bytes)
   pub ShowsShape-begins : (reach : ℕ) → ShowsShape (take 1024 bytes) reach (shape_of reach header)
   ShowsShape-begins reach = rw first at (ShowsShape-shape_of header (page_bytes header.size bytes 0) begins.size begins.spelled reach)
 
-  pub IsShape-begins : (reach : ℕ) (shape : Shape) → ShowsShape (take 1024 bytes) reach shape → IsShape shape
-  IsShape-begins reach shape shows =
-      IsShape-agrees header shape begins.spelled.fits (Agrees-shown header (page_bytes header.size bytes 0) begins.size begins.spelled reach shape (rw first shows)) begins.size (shown_limit (take 1024 bytes) reach shape shows)
+  pub IsFileShape-begins : (reach : ℕ) (shape : Shape) → ShowsShape (take 1024 bytes) reach shape → IsFileShape shape
+  IsFileShape-begins reach shape shows =
+      IsFileShape-agrees header shape begins.spelled.fits (Agrees-shown header (page_bytes header.size bytes 0) begins.size begins.spelled reach shape (rw first shows)) begins.size (shown_limit (take 1024 bytes) reach shape shows)
 
   pub HasShape-begins : (reach : ℕ) (shape : Shape) → ShowsShape (take 1024 bytes) reach shape → HasShape shape header
   HasShape-begins reach shape shows =
       HasShape-agrees header shape begins.spelled.fits (Agrees-shown header (page_bytes header.size bytes 0) begins.size begins.spelled reach shape (rw first shows))
 
--- pages that begin with a header are bytes that begin with it
+-- Pages that begin with a header are bytes that begin with it.
 pub BeginsWith-pages : (shape : Shape) (header : Header) (pages : List Page) (bytes : List ℕ) → IsPageSize header.size → shape.size ≡ header.size → ShowsPages shape (kind.Header header ∷ pages) bytes → BeginsWith header bytes
 BeginsWith-pages shape header pages bytes sized size is = record {
   size = sized;

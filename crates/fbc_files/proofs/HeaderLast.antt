@@ -28,7 +28,7 @@ written_whole size relations =
     let long : length (new_pages size relations) ≡ suc (2 + length relations) = omega (arith, count) in
     ap (written_pages (new_pages size relations)) (sym count) ∙ written_pages-all (new_pages size relations) (2 + length relations) long
 
--- a first byte that is 0 is of no kind
+-- A first byte that is 0 is of no kind.
 no_kind : (byte : ℕ) (rest : Option Rule) → byte ≡ 0 → (if not (byte == 1) then Some rule.Kind else rest) ≡ Some rule.Kind
 no_kind byte rest is = rw is refl
 
@@ -47,7 +47,7 @@ module _ (size : ℕ) (relations : List NewRelation) (sized : IsPageSize size) w
       let long : size ≤ length bytes = omega (arith, is.length_is, mul-le-mul_left size some) in
       let shown : ShowsPage (new_shape size relations) 0 (page_bytes size bytes 0) kind.Blank = rw front at (is.each 0 (omega arith)) in
       let first : slice_index (take 1024 bytes) 0 ≡ 0 =
-      ap (λ (xs : List ℕ). slice_index xs 0) (sym (first_bytes size bytes wide long))
+      ap (λ (xs : List ℕ). slice_index xs 0) (sym (first_bytes size bytes wide (omega (arith, wide, long))))
       ∙ (get_or-take 1024 (page_bytes size bytes 0) 0 0 (omega arith)
       ∙ (ap (λ (xs : List ℕ). slice_index xs 0) shown.spelled
       ∙ get_or-replicate size 0 0 0 (omega arith))) in

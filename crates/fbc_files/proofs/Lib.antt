@@ -1,3 +1,4 @@
+pub mod FileShapes
 pub mod FirstPage
 pub mod HeaderLast
 pub mod Making

@@ -16,7 +16,7 @@ use Rattle.fbc_files.specs.Pages.{ShowsPages, listed_view, with_page}
 use Rattle.fbc_files.proofs.NewFits.{length-new_pages}
 use Rattle.fbc_files.proofs.PageWrites.{ShowsPages-written, length-with_page, with_page_at}
 
--- what stands in a list after a page was put into it, in its place and elsewhere
+-- What stands in a list after a page was put into it, in its place and elsewhere.
 put_there : (number : ℕ) (page : Page) (pages : List Page) → slice_index_or (with_page number page pages) number kind.Blank ≡ page
 put_there number page pages = same_Some (slice_index_or (with_page number page pages) number kind.Blank) page (with_page_at number page pages number ∙ here (number == number) (grind (arith, nat_tests)))
   where
@@ -29,7 +29,7 @@ put_elsewhere number page pages other differ = same_Some (slice_index_or (with_p
     there : (b : Bool) → b ≡ false → (if b then Some page else listed_view pages other) ≡ listed_view pages other
     there b is = rw is refl
 
--- the pages before the header is written: nothing, or a blank one and behind it those that were written
+-- The pages before the header is written: nothing, or a blank one and behind it those that were written.
 pub record ArePartial (pages : List Page) (count : ℕ) (held : List Page) : Type 0 where
   pub none : count ≡ 0 → held ≡ []
   pub some : 0 < count → length held ≡ count + 1
@@ -42,7 +42,7 @@ middle_write pages number below = grind (arith, nat_tests)
 last_write : (pages number : ℕ) → number ≡ pages → page_of_write pages number ≡ 0
 last_write pages number is = grind (arith, nat_tests)
 
--- one more page
+-- One more page.
 one_more : (pages : List Page) (count number : ℕ) (held : List Page) → number ≡ count + 1 → ArePartial pages count held → ArePartial pages (count + 1) (with_page number (slice_index_or pages number kind.Blank) held)
 one_more pages count number held is part =
     let page : Page = slice_index_or pages number kind.Blank in
@@ -77,7 +77,7 @@ ArePartial-written pages (suc count) below =
     subst (λ (n : ℕ). ArePartial pages n (written_pages pages (suc count))) (sym next)
     (subst (λ (n : ℕ). ArePartial pages (count + 1) (with_page n (slice_index_or pages n kind.Blank) (written_pages pages count))) (sym number) (one_more pages count (suc count) (written_pages pages count) next before))
 
--- the header put in front of them
+-- The header put in front of them.
 completed : (pages held : List Page) (count : ℕ) → length pages ≡ suc count → ArePartial pages count held → with_page 0 (slice_index_or pages 0 kind.Blank) held ≡ pages
 completed pages held count long part = same_lists (with_page 0 page held) pages (length-with_page 0 page held ∙ longest) (λ k d below.
     let within : k < length pages = omega (arith, length-with_page 0 page held, longest) in
@@ -98,7 +98,7 @@ completed pages held count long part = same_lists (with_page 0 page held) pages 
       | inr front ↦ let same : k ≡ 0 = omega arith in rw same (put_there 0 page held)
     ]
 
--- after all writes the pages stand
+-- After all writes the pages stand.
 pub written_pages-all : (pages : List Page) (count : ℕ) → length pages ≡ suc count → written_pages pages (length pages) ≡ pages
 written_pages-all pages count long =
     let part = ArePartial-written pages count (omega arith) in
@@ -107,7 +107,7 @@ written_pages-all pages count long =
     ∙ (ap (λ (n : ℕ). with_page n (slice_index_or pages n kind.Blank) (written_pages pages count)) number
     ∙ completed pages (written_pages pages count) count long part)
 
--- one write on
+-- One write on.
 holds_more : (size : ℕ) (pages : List Page) (count number : ℕ) (page : Page) (before now after : Option (List ℕ)) → number ≡ page_of_write (length pages) (suc count) → page ≡ slice_index_or pages number kind.Blank → stands_under number page ≡ true → HoldsIfEmpty (ShowsWritten size pages count) before now → IsPagePut size number page now after → HoldsIfEmpty (ShowsWritten size pages (suc count)) before after
 holds_more size pages count number page None None after place is stands holds put = put
 holds_more size pages count number page None (Some now) after place is stands holds put = cc
@@ -127,7 +127,7 @@ module _ (size : ℕ) (pages : List Page) (fits : AreNewPages size pages) (befor
   stands_there : (number : ℕ) (page : Page) → page ≡ slice_index_or pages number kind.Blank → stands_under number page ≡ true
   stands_there number page is = ap (stands_under number) is ∙ fits.stands number
 
-  -- the write of the next page
+  -- The write of the next page.
   pub holds_next : (number : ℕ) (page : Page) → 1 ≤ number → number < length pages → page ≡ slice_index_or pages number page → HoldsIfEmpty (ShowsWritten size pages (number - 1)) before now → IsPagePut size number page now after → HoldsIfEmpty (ShowsWritten size pages (number + 1 - 1)) before after
   holds_next number page from below is holds put =
       let e : suc (number - 1) ≡ number = omega arith in
@@ -136,7 +136,7 @@ module _ (size : ℕ) (pages : List Page) (fits : AreNewPages size pages) (befor
       let place : number ≡ page_of_write (length pages) (suc (number - 1)) = sym (ap (page_of_write (length pages)) e ∙ middle_write (length pages) number below) in
       rw e' at (holds_more size pages (number - 1) number page before now after place there (stands_there number page there) holds put)
 
-  -- the write of page 0, behind all others
+  -- The write of page 0, behind all others.
   pub holds_last : (number : ℕ) (page : Page) → number ≡ length pages → page ≡ slice_index_or pages 0 page → HoldsIfEmpty (ShowsWritten size pages (number - 1)) before now → IsPagePut size 0 page now after → HoldsIfEmpty (ShowsWritten size pages (length pages)) before after
   holds_last number page end is holds put =
       let some : 1 ≤ length pages = fits.some in
@@ -145,14 +145,14 @@ module _ (size : ℕ) (pages : List Page) (fits : AreNewPages size pages) (befor
       let place : 0 ≡ page_of_write (length pages) (suc (number - 1)) = sym (last_write (length pages) (suc (number - 1)) e) in
       rw e at (holds_more size pages (number - 1) 0 page before now after place there (stands_there 0 page there) holds put)
 
--- after some of the writes
+-- After some of the writes.
 pub holds_some : (size : ℕ) (pages : List Page) (count : ℕ) (before now : Option (List ℕ)) → count ≤ length pages → HoldsIfEmpty (ShowsWritten size pages count) before now → HoldsIfEmpty (ShowsSome size pages) before now
 holds_some size pages count None now within holds = holds
 holds_some size pages count (Some bytes) None within holds = holds
 holds_some size pages count (Some bytes) (Some now) within holds = λ empty. record { count = count; within = within; shows = holds empty }
 
 module _ (size : ℕ) (pages : List Page) (fits : AreNewPages size pages) (before now after : Option (List ℕ)) where
-  -- the write of the next page, or no write
+  -- The write of the next page, or no write.
   pub some_next : (number : ℕ) (page : Page) → 1 ≤ number → number < length pages → page ≡ slice_index_or pages number page → HoldsIfEmpty (ShowsWritten size pages (number - 1)) before now → IsPagePutOrNot size number page now after → HoldsIfEmpty (ShowsSome size pages) before after
   some_next number page from below is holds (inl stays) = rw (sym stays) at (holds_some size pages (number - 1) before now (omega arith) holds)
   some_next number page from below is holds (inr put) = holds_some size pages (number + 1 - 1) before after (omega arith) (holds_next size pages fits before now after number page from below is holds put)
@@ -161,7 +161,7 @@ module _ (size : ℕ) (pages : List Page) (fits : AreNewPages size pages) (befor
   some_last number page end is holds (inl stays) = rw (sym stays) at (holds_some size pages (number - 1) before now (omega arith) holds)
   some_last number page end is holds (inr put) = holds_some size pages (length pages) before after (omega arith) (holds_last size pages fits before now after number page end is holds put)
 
--- what follows where a call succeeded
+-- What follows where a call succeeded.
 pub on_ok : {T E P Q : Type 0} (result : Result T E) → (P → Q) → OnOk result P → OnOk result Q
 on_ok (Ok x) follows is = follows is
 on_ok (Err e) follows is = tt
@@ -170,7 +170,7 @@ module _ (size : ℕ) (relations : List NewRelation) (pages : List Page) (are : 
   count_is : length pages ≡ page_count relations
   count_is = ap length all ∙ length-new_pages size relations
 
-  -- all writes make the new file
+  -- All writes make the new file.
   pub holds_new : (before now : Option (List ℕ)) → HoldsIfEmpty (ShowsWritten size pages (length pages)) before now → HoldsIfEmpty (IsNewFile size relations) before now
   holds_new None now holds = holds
   holds_new (Some bytes) None holds = holds
@@ -178,7 +178,7 @@ module _ (size : ℕ) (relations : List NewRelation) (pages : List Page) (are : 
       let long : length pages ≡ suc (2 + length relations) = omega (arith, count_is) in
       rw (written_pages-all pages (2 + length relations) long, all) at (holds empty (new_shape size relations) refl)
 
-  -- some of them a part of it
+  -- Some of them a part of it.
   pub holds_part : (before now : Option (List ℕ)) → HoldsIfEmpty (ShowsSome size pages) before now → HoldsIfEmpty (IsPartOfNewFile size relations) before now
   holds_part None now holds = holds
   holds_part (Some bytes) None holds = holds

@@ -6,7 +6,7 @@ use Rattle.fbc_kinds.specs.declared.pages.Relation.{Relation}
 use Rattle.fbc_files.specs.declared.relations.NewRelation.{NewRelation}
 use Rattle.fbc_files.specs.NewPages.{new_entries}
 
--- the entry of a relation with this pointer page
+-- The entry of a relation with this pointer page.
 abbrev pub entry : ℕ → NewRelation → Relation
 entry page relation = record { name = relation.name; length = relation.length; pointers = page ∷ [] }
 
@@ -14,7 +14,7 @@ pub length-new_entries : (page : ℕ) (relations : List NewRelation) → length 
 length-new_entries page [] = refl
 length-new_entries page (relation ∷ relations) = ap suc (length-new_entries (page + 1) relations)
 
--- one relation more
+-- One relation more.
 new_entries-push : (page : ℕ) (relations : List NewRelation) (relation : NewRelation) → new_entries page (relations ++ relation ∷ []) ≡ new_entries page relations ++ entry (page + length relations) relation ∷ []
 new_entries-push page [] relation = let same : page ≡ page + 0 = omega arith in ap (λ (n : ℕ). entry n relation ∷ []) same
 new_entries-push page (first ∷ relations) relation =
@@ -33,7 +33,7 @@ new_entries-more relations i entries relation pointers below is before there =
     ∙ (ap (λ (r : NewRelation). new_entries 3 (take i relations ++ r ∷ [])) is
     ∙ ap (new_entries 3) (sym (take_more relations i relation below))))))
 
--- an entry is that of the relation in its place
+-- An entry is that of the relation in its place.
 pub record IsEntryOf (page : ℕ) (relations : List NewRelation) (i : ℕ) (r : Relation) : Type 0 where
   pub relation : NewRelation
   pub found : slice_get relations i ≡ Some relation

@@ -29,29 +29,29 @@ pub length-active_states : (count : ℕ) → length (active_states count) ≡ co
 unfolding active_states
 length-active_states count = length-replicate count Active
 
-length-empty_slots : (count : ℕ) → length (empty_slots count) ≡ count
+pub length-empty_slots : (count : ℕ) → length (empty_slots count) ≡ count
 unfolding empty_slots
 length-empty_slots count = length-replicate count 0
 
-length-taken_first : (taken free : ℕ) → length (taken_first taken free) ≡ taken + free
+pub length-taken_first : (taken free : ℕ) → length (taken_first taken free) ≡ taken + free
 unfolding taken_first
 length-taken_first taken free = grind (arith, common_steps)
 
--- every state is that of a transaction that is not over
+-- Every state is that of a transaction that is not over.
 pub each_active : (count place : ℕ) (state : State) → slice_get (active_states count) place ≡ Some state → state ≡ Active
 unfolding active_states
 each_active count place state at =
     let within : place < count = omega (arith, slice_get_within (replicate count Active) place state at, length-replicate count Active) in
     sym (get_or_from_slice_get (replicate count Active) place state Active at) ∙ get_or-replicate count place Active Active within
 
--- every slot names nothing
+-- Every slot names nothing.
 pub each_empty : (count slot number : ℕ) → slice_get (empty_slots count) slot ≡ Some number → number ≡ 0
 unfolding empty_slots
 each_empty count slot number at =
     let within : slot < count = omega (arith, slice_get_within (replicate count 0) slot number at, length-replicate {A = ℕ} count 0) in
     sym (get_or_from_slice_get (replicate count 0) slot number 0 at) ∙ get_or-replicate count slot 0 0 within
 
--- the first pages are taken
+-- The first pages are taken.
 pub first_taken : (taken free i : ℕ) → i < taken → slice_get (taken_first taken free) i ≡ Some true
 unfolding taken_first
 first_taken taken free i within =
@@ -60,7 +60,7 @@ first_taken taken free i within =
     slice_get-get_or (marks ++ replicate free false) i true (omega (arith, length-append marks (replicate free false), front))
     ∙ ap Some (get_or_append_left marks (replicate free false) true i front ∙ get_or-replicate taken i true true within)
 
-first_active : (count : ℕ) → 0 < count → slice_get (active_states count) 0 ≡ Some Active
+pub first_active : (count : ℕ) → 0 < count → slice_get (active_states count) 0 ≡ Some Active
 unfolding active_states
 first_active count some = grind (arith, common_steps)
 
@@ -86,7 +86,7 @@ IsPointer-new size relation few = record {
   slots_fit = slots_fit (slots size);
 }
 
--- page 1 has its own mark
+-- Page 1 has its own mark.
 own_mark : (size : ℕ) → IsPageSize size → 1 % inventory_bits size ≡ 1
 own_mark size (inl is) = rw is refl
 own_mark size (inr (inl is)) = rw is refl
@@ -154,7 +154,7 @@ module _ (size : ℕ) (relations : List NewRelation) (sized : IsPageSize size) (
         oldest = refl;
       }
 
-  -- the page of a number behind the first three
+  -- The page of a number behind the first three.
   pub pointer_at : (k : ℕ) → k < length relations → slice_index_or (map (pointer_page size) (range_with_len 0 (length relations))) k kind.Blank ≡ pointer_page size k
   pointer_at k below = get_or-map-range_with_len (pointer_page size) 0 (length relations) k k kind.Blank below (omega arith)
 

@@ -31,18 +31,18 @@ use Rattle.fbc_files.proofs.Recognition.{long_page}
 use Rattle.fbc_files.proofs.RowlessViews.{IsSound-rowless, MeanTheSame-rowless, and_then_none}
 use Rattle.fbc_files.proofs.ShownShapes.{same_spelling}
 
--- the one place of a list of one
+-- The one place of a list of one.
 only : (number place found : ℕ) → slice_get (number ∷ []) place ≡ Some found → (place ≡ 0) × (number ≡ found)
 only number zero found at = (refl, same_Some number found at)
 only number (suc place) found at = absurd (none-some found at)
 
--- a slot that can only be empty names nothing
+-- A slot that can only be empty names nothing.
 names_nothing : (slot : Option ℕ) → ((number : ℕ) → slot ≡ Some number → number ≡ 0) → option_and_then unless_zero slot ≡ None
 names_nothing None empty_one = refl
 names_nothing (Some number) empty_one = rw (empty_one number refl) refl
 
 module _ (size : ℕ) (relations : List NewRelation) (sized : IsPageSize size) (are : AreNewRelations relations) where
-  -- the view of the new pages
+  -- The view of the new pages.
   abbrev pub new_view : View
   new_view = listed_view (new_pages size relations)
 
@@ -51,7 +51,7 @@ module _ (size : ℕ) (relations : List NewRelation) (sized : IsPageSize size) (
       let place : 3 + relation ≡ suc (suc (suc relation)) = omega arith in
       ap new_view place ∙ ap Some (pointer_at size relations sized are relation below)
 
-  -- no page names a data page
+  -- No page names a data page.
   nothing_named : (page slot : ℕ) → named_in (new_view page) slot ≡ None
   nothing_named zero slot = refl
   nothing_named (suc zero) slot = refl
@@ -64,7 +64,7 @@ module _ (size : ℕ) (relations : List NewRelation) (sized : IsPageSize size) (
   no_rows : (relation sequence : ℕ) → data_of new_view relation sequence ≡ None
   no_rows relation sequence = and_then_none (λ (pointer : ℕ). named_in (new_view pointer) (sequence % slots size)) (pointer_of new_view relation (sequence / slots size)) (λ pointer. nothing_named pointer (sequence % slots size))
 
-  -- no state is other than active
+  -- No state is other than active.
   all_active : (page place : ℕ) (state : State) → state_in (new_view page) place ≡ Some state → state ≡ Active
   all_active zero place state at = absurd (none-some state at)
   all_active (suc zero) place state at = absurd (none-some state at)
@@ -77,7 +77,7 @@ module _ (size : ℕ) (relations : List NewRelation) (sized : IsPageSize size) (
   active : AreActive new_view
   active page place state at = ap is_active_state (all_active page place state at)
 
-  -- the new pages are taken
+  -- The new pages are taken.
   taken_below : (page : ℕ) → page < page_count relations → is_taken new_view page ≡ true
   taken_below page below =
       let few : page < inventory_bits size = omega (arith, are.few, long_page size sized) in
@@ -105,7 +105,7 @@ module _ (size : ℕ) (relations : List NewRelation) (sized : IsPageSize size) (
       ap (shows_role (PointerRole number 0) (3 + number)) (pointer_shown number below) ∙ role_shown number in
       rw (first, ← there) (record { shows = shows; taken = taken_below (3 + number) (omega arith) })
 
-  -- the pages that the new header names have their roles
+  -- The pages that the new header names have their roles.
   pub NamesFit-new : NamesFit new_view (new_header size relations)
   NamesFit-new = record {
     stands = refl;
@@ -125,7 +125,7 @@ module _ (size : ℕ) (relations : List NewRelation) (sized : IsPageSize size) (
   pub MeanTheSame-new : MeanTheSame (meaning_of new_view) empty
   MeanTheSame-new = MeanTheSame-rowless new_view no_rows active
 
-  -- the new file is sound, however far its device reaches
+  -- The new file is sound, however far its device reaches.
   pub IsSoundFile-new : (reach : ℕ) (bytes : List ℕ) → IsNewFile size relations bytes → IsSoundFile reach bytes new_view
   IsSoundFile-new reach bytes is = record {
     shape = shape_of reach (new_header size relations);

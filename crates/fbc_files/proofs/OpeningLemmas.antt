@@ -3,11 +3,11 @@ use Rattle.std.proofs.Common.{◌≡◌, ◌≤◌, min, ℕ, List, length, take
 use Rattle.std.proofs.lemmas.Grind.{common_steps}
 use Rattle.fbc_kinds.specs.declared.rules.Rule.{Rule}
 use Rattle.fbc_kinds.specs.declared.shapes.Shape.{Shape}
-use Rattle.fbc_kinds.specs.HeaderSpelling.{ShowsShape, IsShape, broken_file}
+use Rattle.fbc_kinds.specs.HeaderSpelling.{ShowsShape, IsFileShape, broken_file}
 use Rattle.fbc_outside.specs.Bytes.{IsLength, ReadsFrom}
 use Rattle.fbc_files.specs.Opening.{IsOpened, IsRefused}
 
--- bytes and a number are a file's first 1,024 bytes and its length
+-- Bytes and a number are a file's first 1,024 bytes and its length.
 abbrev pub IsBeginning : Option (List ℕ) → List ℕ → ℕ → Type 0
 IsBeginning None first seen = Unit {0}
 IsBeginning (Some bytes) first seen = (first ≡ take 1024 bytes) × (seen ≡ length bytes)
@@ -27,7 +27,7 @@ beginning (Some bytes) reach told read count seen into is reads wide within agre
     (ap (λ n. take n into) all ∙ same ∙ ap (λ n. take n bytes) (sym all) ∙ take-min bytes 1024 count counted, seen_is)
 
 pub opened : (file : Option (List ℕ)) (reach seen : ℕ) (first : List ℕ) (shape : Shape)
-    → IsBeginning file first seen → broken_file first seen ≡ None → ShowsShape first reach shape → IsShape shape → seen ≤ reach
+    → IsBeginning file first seen → broken_file first seen ≡ None → ShowsShape first reach shape → IsFileShape shape → seen ≤ reach
     → IsOpened reach file (record { shape = shape; length = seen })
 opened None reach seen first shape is unbroken shows limits within = record { recognised = tt; shown = tt; limits = limits; whole = tt; within = within }
 opened (Some bytes) reach seen first shape is unbroken shows limits within = record {

@@ -16,7 +16,7 @@ use Rattle.fbc_kinds.proofs.Tests.{differ_from_test, same_from_test}
 use Rattle.fbc_outside.specs.Bytes.{written}
 use Rattle.fbc_files.specs.Pages.{ShowsPages, listed_view, view_with_page, with_page}
 
--- the bytes of a page have its size
+-- The bytes of a page have its size.
 pub length-spelling : (shape : Shape) (page : Page) (bytes : List ℕ) → IsSpelling shape page bytes → length bytes ≡ shape.size
 length-spelling shape (kind.Header header) bytes is = is.size_is
 length-spelling shape (kind.Inventory inventory) bytes is = is.size_is
@@ -25,12 +25,12 @@ length-spelling shape (kind.Pointer pointer) bytes is = is.size_is
 length-spelling shape (kind.Data versions) bytes is = is.size_is
 length-spelling shape kind.Blank bytes is = ap length is ∙ length-replicate shape.size 0
 
--- the bytes from a place on, outside what is written
+-- The bytes from a place on, outside what is written.
 apart : (size at from : ℕ) (image bytes : List ℕ) → length image ≡ size → (at + size ≤ from) ⊎ (from + size ≤ at) → padded size (take size (drop at (written from image bytes))) ≡ padded size (take size (drop at bytes))
 apart size at from image bytes fits (inl before) = same_lists _ _ (search (rules, places)) (λ k d h. grind (arith, places))
 apart size at from image bytes fits (inr behind) = same_lists _ _ (search (rules, places)) (λ k d h. grind (arith, places))
 
--- two pages of different numbers are apart
+-- Two pages of different numbers are apart.
 pages_apart : (size number other : ℕ) → other ≢ number → (other * size + size ≤ number * size) ⊎ (number * size + size ≤ other * size)
 pages_apart size number other differ =
     elim (cases_lt other number) [
@@ -50,11 +50,11 @@ page_there size number image bytes fits = same_lists _ _ (search (rules, places)
 pub length-written : (size number : ℕ) (image bytes : List ℕ) → length image ≡ size → length (written (number * size) image bytes) ≡ max (length bytes) (size * (number + 1))
 length-written size number image bytes fits = grind (arith, places)
 
--- past the end there are zeros
+-- Past the end there are zeros.
 pub page_past : (size number : ℕ) (bytes : List ℕ) → length bytes ≤ number * size → page_bytes size bytes number ≡ replicate size 0
 page_past size number bytes past = same_lists _ _ (search (rules, places)) (λ k d h. grind (arith, places))
 
--- bytes give the view that their pages show, blank behind their end
+-- Bytes give the view that their pages show, blank behind their end.
 pub IsViewOf-pages : (shape : Shape) (pages : ℕ) (bytes : List ℕ) (view : View) → length bytes ≤ shape.size * pages → ((number : ℕ) → number < pages → Shows shape number (page_bytes shape.size bytes number) (view number)) → ((number : ℕ) → pages ≤ number → view number ≡ Some kind.Blank) → IsViewOf shape bytes view
 IsViewOf-pages shape pages bytes view short each blank number =
     elim (cases_lt number pages) [
@@ -65,11 +65,11 @@ IsViewOf-pages shape pages bytes view short each blank number =
           rw (blank number past) (record { spelled = zeros; stands = refl })
     ]
 
--- the bytes of a list of pages give the view of the list
+-- The bytes of a list of pages give the view of the list.
 pub IsViewOf-listed : (shape : Shape) (pages : List Page) (bytes : List ℕ) → ShowsPages shape pages bytes → IsViewOf shape bytes (listed_view pages)
 IsViewOf-listed shape pages bytes is = IsViewOf-pages shape (length pages) bytes (listed_view pages) (omega (arith, is.length_is)) is.each (λ number past. ap Some (get_or_past pages number kind.Blank past))
 
--- the write of a page puts it into the view
+-- The write of a page puts it into the view.
 pub IsViewOf-written : (shape : Shape) (number : ℕ) (page : Page) (image bytes : List ℕ) (view : View) → ShowsPage shape number image page → IsViewOf shape bytes view → IsViewOf shape (written (number * shape.size) image bytes) (view_with_page number page view)
 IsViewOf-written shape number page image bytes view shows is other = either (other == number) refl
   where
@@ -82,7 +82,7 @@ IsViewOf-written shape number page image bytes view shows is other = either (oth
         rw (here, page_there shape.size number image bytes fits) shows
     either false differ = rw (page_elsewhere shape.size number other image bytes fits (differ_from_test other number differ)) (is other)
 
--- what stands in a list after a page was put into it
+-- What stands in a list after a page was put into it.
 pub with_page_at : (number : ℕ) (page : Page) (pages : List Page) (other : ℕ) → listed_view (with_page number page pages) other ≡ view_with_page number page (listed_view pages) other
 with_page_at number page pages other = grind (arith, nat_tests, places, get_or_past {X = Page})
 
@@ -96,7 +96,7 @@ most_times size a b =
       | inr above ↦ let most : max a b ≡ a = omega arith in let less : size * b ≤ size * a = mul-le-mul_left size above in ap (λ n. size * n) most ∙ omega arith
     ]
 
--- the write of a page puts it into the list
+-- The write of a page puts it into the list.
 pub ShowsPages-written : (shape : Shape) (number : ℕ) (page : Page) (image bytes : List ℕ) (pages : List Page) → ShowsPage shape number image page → ShowsPages shape pages bytes → ShowsPages shape (with_page number page pages) (written (number * shape.size) image bytes)
 ShowsPages-written shape number page image bytes pages shows is =
     let fits : length image ≡ shape.size = length-spelling shape page image shows.spelled in

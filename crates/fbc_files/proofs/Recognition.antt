@@ -15,7 +15,7 @@ use Rattle.fbc_kinds.proofs.HeaderRules.{both_unbroken}
 use Rattle.fbc_kinds.proofs.HeaderUnbroken.{SpellsHeader-unbroken}
 use Rattle.fbc_kinds.proofs.Tests.{not_of_true, test_of_same}
 
--- tests that agree below a limit find one below it alike
+-- Tests that agree below a limit find one below it alike.
 any_below-same : (f g : ℕ → Bool) (limit : ℕ) → ((i : ℕ) → i < limit → f i ≡ g i) → any_below f limit ≡ any_below g limit
 unfolding any_below
 any_below-same f g zero same = refl
@@ -24,7 +24,7 @@ any_below-same f g (suc limit) same =
     let here : f limit ≡ g limit = same limit (omega arith) in
     rw (before, here) refl
 
--- where no test passes, no rule is broken
+-- Where no test passes, no rule is broken.
 none_after : (a b : Option Rule) → a ≡ None → b ≡ None → or_else a b ≡ None
 none_after a b before after = rw (before, after) refl
 
@@ -37,11 +37,11 @@ length_by over none = rw none refl
 end_by : (tips oldest rest : Bool) → tips ≡ false → oldest ≡ false → rest ≡ false → (if tips then Some rule.Tips else if oldest then Some rule.Oldest else if rest then Some rule.Rest else None) ≡ None
 end_by tips oldest rest a b c = rw (a, b, c) refl
 
--- the tests of the relations, where they agree
+-- The tests of the relations, where they agree.
 relations_by : (a b c d e f g h : Bool) → a ≡ b → c ≡ d → e ≡ f → g ≡ h → (if a || c then Some rule.Name else if e then Some rule.Value else if g then Some rule.Pointers else None) ≡ (if b || d then Some rule.Name else if f then Some rule.Value else if h then Some rule.Pointers else None)
 relations_by a b c d e f g h names repeats values pointers = rw (names, repeats, values, pointers) refl
 
--- the bytes of a header say all that they say in their first 400
+-- The bytes of a header say all that they say in their first 400.
 module _ (first bytes : List ℕ) (same : (from to : ℕ) → to ≤ 400 → slice_range first from to ≡ slice_range bytes from to) where
   same_number : (from to : ℕ) → to ≤ 400 → number_at from to first ≡ number_at from to bytes
   same_number from to within = ap (number_in 256) (same from to within)
@@ -95,7 +95,7 @@ module _ (first bytes : List ℕ) (same : (from to : ℕ) → to ≤ 400 → sli
       let page = same_number (336 + 4 * i) (336 + 4 * i + 4) (omega arith) in
       rw (count, page) refl)
 
--- a size that is one of the five passes their test
+-- A size that is one of the five passes their test.
 is_sized : (size : ℕ) → IsPageSize size → is_page_size size ≡ true
 is_sized size (inl is) = rw is refl
 is_sized size (inr (inl is)) = rw is refl
@@ -111,7 +111,7 @@ long_page size (inr (inr (inr (inl is)))) = omega arith
 long_page size (inr (inr (inr (inr is)))) = omega arith
 
 module _ (header : Header) (page : List ℕ) (sized : IsPageSize header.size) (x : SpellsHeader header.size header page) where
-  -- the first bytes of a page that spells a header break no rule
+  -- The first bytes of a page that spells a header break no rule.
   pub beginning_passes : (bytes : ℕ) → bytes % header.size ≡ 0 → broken_beginning (take 1024 page) bytes ≡ None
   beginning_passes bytes whole =
       let first : List ℕ = take 1024 page in

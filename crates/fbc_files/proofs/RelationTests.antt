@@ -13,7 +13,7 @@ use Rattle.fbc_files.specs.declared.relations.NewRelation.{NewRelation}
 use Rattle.fbc_files.specs.NewPages.{AreNewRelations, IsNewRelation}
 use Rattle.fbc_files.specs.RelationTests.{has_name, has_right_count, have_own_names, is_new_relation, pass_tests}
 
--- the relations, each of its own name
+-- The relations, each of its own name.
 abbrev OwnNames : List NewRelation → Type 0
 OwnNames relations = (i j : ℕ) (r s : NewRelation) → slice_get relations i ≡ Some r → slice_get relations j ≡ Some s → r.name ≡ s.name → i ≡ j
 
@@ -30,7 +30,7 @@ second_of : (a b : Bool) → b ≡ true → (a || b) ≡ true
 second_of true b is = refl
 second_of false b is = is
 
--- a name that a relation has is found
+-- A name that a relation has is found.
 name_found : (name : List ℕ) (relations : List NewRelation) (j : ℕ) (s : NewRelation) → slice_get relations j ≡ Some s → s.name ≡ name → has_name name relations ≡ true
 name_found name [] j s at same = absurd (none-some s at)
 name_found name (r ∷ relations) zero s at same =
@@ -38,7 +38,7 @@ name_found name (r ∷ relations) zero s at same =
     first_of (bytes_eq r.name name) (has_name name relations) ((bytes_eq-Decides r.name name).1 (ap (λ (x : NewRelation). x.name) is ∙ same))
 name_found name (r ∷ relations) (suc j) s at same = second_of (bytes_eq r.name name) (has_name name relations) (name_found name relations j s at same)
 
--- a name that is found is a relation's
+-- A name that is found is a relation's.
 abbrev Named : List ℕ → List NewRelation → Type 0
 Named name relations = (j : ℕ) × (s : NewRelation) × (slice_get relations j ≡ Some s) × (s.name ≡ name)
 
@@ -103,7 +103,7 @@ test_from_each (x ∷ xs) each =
     (both (is_name x.name && nat_le 1 x.length) (nat_le x.length value_limit) (both (is_name x.name) (nat_le 1 x.length) new.name (test_of_order 1 x.length new.value_from)) (test_of_order x.length value_limit new.value_to))
     (test_from_each xs (λ i relation at. each (suc i) relation at))
 
--- what the tests of relations tell
+-- What the tests of relations tell.
 pub AreNewRelations-tested : (relations : List NewRelation) → pass_tests relations ≡ true → AreNewRelations relations
 AreNewRelations-tested relations passes =
     let last = both_pass (has_right_count relations && list_all is_new_relation relations) (have_own_names relations) passes in

@@ -18,12 +18,12 @@ use Rattle.fbc_kinds.proofs.Roles.{reached_once}
 use Rattle.fbc_files.specs.Roles.{AreActive, DataFits, NamesFit, NamesNoData}
 use Rattle.fbc_files.proofs.ReachedRoles.{HasRole-reached}
 
--- what is found behind nothing
+-- What is found behind nothing.
 pub and_then_none : {A B : Type 0} (f : A → Option B) (place : Option A) → ((a : A) → f a ≡ None) → option_and_then f place ≡ None
 and_then_none f None none = refl
 and_then_none f (Some a) none = none a
 
--- the first of a list, where it fails or passes a test
+-- The first of a list, where it fails or passes a test.
 find_first : (test : Transaction → Bool) (first : Transaction) (later longer : List Transaction) (b : Bool) → test first ≡ b → find test (first ∷ later) ≡ None → (find test later ≡ None → find test longer ≡ None) → find test (first ∷ longer) ≡ None
 find_first test first later longer true is none next = let no : Some first ≡ None = rw is at none in absurd (none-some first (sym no))
 find_first test first later longer false is none next = rw is (next (rw is at none))
@@ -32,7 +32,7 @@ filter_first : (test : Transaction → Bool) (first : Transaction) (later longer
 filter_first test first later longer true is none next = let no : first ∷ filter test later ≡ [] = rw is at none in cc
 filter_first test first later longer false is none next = rw is (next (rw is at none))
 
--- a transaction that fails a test, behind others that do
+-- A transaction that fails a test, behind others that do.
 find_none : (test : Transaction → Bool) (ts : List Transaction) (t : Transaction) → find test ts ≡ None → test t ≡ false → find test (ts ++ t ∷ []) ≡ None
 find_none test [] t none fails = rw fails refl
 find_none test (first ∷ ts) t none fails = find_first test first ts (ts ++ t ∷ []) (test first) refl none (λ before. find_none test ts t before fails)
@@ -41,7 +41,7 @@ filter_none : (test : Transaction → Bool) (ts : List Transaction) (t : Transac
 filter_none test [] t none fails = rw fails refl
 filter_none test (first ∷ ts) t none fails = filter_first test first ts (ts ++ t ∷ []) (test first) refl none (λ before. filter_none test ts t before fails)
 
--- a state that can only be active is not the committed one
+-- A state that can only be active is not the committed one.
 not_both : (state : State) → is_active_state state ≡ true → is_committed_state state ≡ false
 not_both kind.Active is = refl
 not_both kind.Limbo is = refl
@@ -63,7 +63,7 @@ module _ (view : View) (no_rows : NamesNoData view) where
   DataFits-none : DataFits view
   DataFits-none relation sequence page is = absurd (no_data relation sequence page is)
 
-  -- such a view is sound where its other pages have their roles
+  -- Such a view is sound where its other pages have their roles.
   pub IsSound-rowless : (header : Header) → NamesFit view header → AreActive view → IsSound view
   IsSound-rowless header fits active =
       let fitting : (role : Role) (page : ℕ) → Reaches view role page → shows_role role page (view page) ≡ true = λ role page is. (HasRole-reached view header fits DataFits-none role page is).shows in
@@ -113,7 +113,7 @@ module _ (view : View) (no_rows : NamesNoData view) where
     no_versions : (relation row : ℕ) → standing_versions (meaning_of view) relation row ≡ []
     no_versions relation row = rw (no_chain relation row) refl
 
-    -- it means the machine without rows where no number is committed
+    -- It means the machine without rows where no number is committed.
     pub MeanTheSame-rowless : MeanTheSame (meaning_of view) empty
     MeanTheSame-rowless = record {
       same_open = λ who. rw (none_open who (next_of view)) tt;

@@ -8,9 +8,9 @@ use Rattle.fbc_kinds.specs.declared.pages.Page.TheVariants as kind
 use Rattle.fbc_kinds.specs.declared.pages.Relation.{Relation}
 use Rattle.fbc_kinds.specs.declared.shapes.Shape.{Shape}
 use Rattle.fbc_kinds.specs.Head.{number_in}
-use Rattle.fbc_kinds.specs.HeaderSpelling.{HasShape, IsHeader, IsRelation, IsShape, ShowsShape, SpellsEntry, SpellsHeader, entry_at, name_in, page_size_in, relation_count_in, value_length_in}
+use Rattle.fbc_kinds.specs.HeaderSpelling.{HasShape, IsHeader, IsRelation, IsFileShape, ShowsShape, SpellsEntry, SpellsHeader, entry_at, name_in, page_size_in, relation_count_in, value_length_in}
 use Rattle.fbc_kinds.specs.Limits.{IsPageSize, file_pages}
-use Rattle.fbc_kinds.specs.Spelling.{IsSpelling, value_length}
+use Rattle.fbc_kinds.specs.Spelling.{IsSpelling, listed_length}
 use Rattle.fbc_kinds.proofs.Heads.{range-take}
 use Rattle.fbc_kinds.proofs.HeaderReading.{name_in-spelled}
 use Rattle.fbc_kinds.proofs.HeaderUnbroken.{numbers_are}
@@ -18,7 +18,7 @@ use Rattle.fbc_kinds.proofs.Names.{is_name-short}
 use Rattle.fbc_kinds.proofs.Numbers.{number_in-little_2}
 use Rattle.fbc_files.specs.Shapes.{shape_of}
 
--- what stands in the place of a relation, or of none
+-- What stands in the place of a relation, or of none.
 abbrev at_place : {A : Type 0} → (Relation → A) → A → Option Relation → A
 at_place f none None = none
 at_place f none (Some relation) = f relation
@@ -28,13 +28,13 @@ blank_at none zero i below = absurd (omega arith)
 blank_at none (suc count) zero below = refl
 blank_at none (suc count) (suc i) below = blank_at none count i (omega arith)
 
--- a list of what relations have, with something else behind them
+-- A list of what relations have, with something else behind them.
 place_is : {A : Type 0} (f : Relation → A) (none : A) (relations : List Relation) (count i : ℕ) → i < length relations + count → slice_get (map f relations ++ replicate count none) i ≡ Some (at_place f none (slice_get relations i))
 place_is f none [] count i below = blank_at none count i (omega arith)
 place_is f none (relation ∷ relations) count zero below = refl
 place_is f none (relation ∷ relations) count (suc i) below = place_is f none relations count i (omega arith)
 
--- the name and the value length that an entry spells
+-- The name and the value length that an entry spells.
 entry_name : (place : Option Relation) (entry : List ℕ) → ((r : Relation) → place ≡ Some r → IsRelation r) → SpellsEntry place entry → name_in entry ≡ at_place (λ (r : Relation). r.name) [] place
 entry_name (Some r) entry fits is = name_in-spelled r entry (is_name-short r.name (fits r refl).name) is
 entry_name None entry fits is = ap name_in is
@@ -43,7 +43,7 @@ entry_length : (place : Option Relation) (entry : List ℕ) → ((r : Relation) 
 entry_length (Some r) entry fits is = ap (number_in 256) is.value_length ∙ number_in-little_2 r.length (omega (arith, (fits r refl).value_to))
 entry_length None entry fits is = ap value_length_in is
 
--- a shape is a header's
+-- A shape is a header's.
 pub record Agrees (shape : Shape) (header : Header) : Type 0 where
   pub size : shape.size ≡ header.size
   pub count : shape.count ≡ length header.relations
@@ -67,7 +67,7 @@ module _ (header : Header) (page : List ℕ) (sized : IsPageSize header.size) (x
   shown_count : relation_count_in (take 1024 page) ≡ length header.relations
   shown_count = ap (number_in 256) (range-take 1024 36 38 page (omega arith)) ∙ (numbers_are header.size header page sized x).relation_count
 
-  -- the header's shape is shown
+  -- The header's shape is shown.
   pub ShowsShape-shape_of : (reach : ℕ) → ShowsShape (take 1024 page) reach (shape_of reach header)
   ShowsShape-shape_of reach =
       let few : length header.relations ≤ 8 = x.fits.relations_to in
@@ -79,7 +79,7 @@ module _ (header : Header) (page : List ℕ) (sized : IsPageSize header.size) (x
         limit = ap (λ (size : ℕ). file_pages size reach) (sym shown_size);
       }
 
-  -- a shape that is shown is the header's
+  -- A shape that is shown is the header's.
   pub Agrees-shown : (reach : ℕ) (shape : Shape) → ShowsShape (take 1024 page) reach shape → Agrees shape header
   Agrees-shown reach shape shows = record {
     size = shows.size ∙ shown_size;
@@ -88,7 +88,7 @@ module _ (header : Header) (page : List ℕ) (sized : IsPageSize header.size) (x
     lengths = λ i below. shows.lengths i below ∙ ap Some (shown_length i below);
   }
 
--- where a place holds a relation
+-- Where a place holds a relation.
 at_some : {A : Type 0} (f : Relation → A) (none : A) (relations : List Relation) (i : ℕ) (r : Relation) (a : A) → slice_get relations i ≡ Some r → Some a ≡ Some (at_place f none (slice_get relations i)) → a ≡ f r
 at_some f none relations i r a at same = same_Some a (f r) (same ∙ ap (λ place. Some (at_place f none place)) at)
 
@@ -110,9 +110,9 @@ module _ (header : Header) (shape : Shape) (fits : IsHeader header.size header) 
   length_at : (i n : ℕ) (below : i < shape.count) → slice_get shape.lengths i ≡ Some n → n ≡ (relation_in_use i below).0.length
   length_at i n below at = at_some (λ (r : Relation). r.length) 0 header.relations i (relation_in_use i below).0 n (relation_in_use i below).1 (sym at ∙ agrees.lengths i (inside i below))
 
-  -- the shape of a header within its limits is within its own
-  pub IsShape-agrees : IsPageSize header.size → shape.limit ≤ 64 * ((shape.size - 16) * 8) → IsShape shape
-  IsShape-agrees sized limit = record {
+  -- The shape of a header within its limits is within its own.
+  pub IsFileShape-agrees : IsPageSize header.size → shape.limit ≤ 64 * ((shape.size - 16) * 8) → IsFileShape shape
+  IsFileShape-agrees sized limit = record {
     size = rw agrees.size sized;
     count_from = omega (arith, agrees.count, fits.relations_from);
     count_to = omega (arith, agrees.count, fits.relations_to);
@@ -129,7 +129,7 @@ module _ (header : Header) (shape : Shape) (fits : IsHeader header.size header) 
     limit = limit;
   }
 
-  -- and it is the header's
+  -- And it is the header's.
   pub HasShape-agrees : HasShape shape header
   HasShape-agrees = record {
     size = sym agrees.size;
@@ -138,12 +138,12 @@ module _ (header : Header) (shape : Shape) (fits : IsHeader header.size header) 
     lengths = λ i r at. agrees.lengths i (omega (arith, slice_get_within header.relations i r at, fits.relations_to)) ∙ ap (λ place. Some (at_place (λ (r : Relation). r.length) 0 place)) at;
   }
 
--- how many pages a shown shape allows
+-- How many pages a shown shape allows.
 pub shown_limit : (first : List ℕ) (reach : ℕ) (shape : Shape) → ShowsShape first reach shape → shape.limit ≤ 64 * ((shape.size - 16) * 8)
 shown_limit first reach shape shows = rw (shows.limit, shows.size) (omega arith)
 
--- shapes of one size and the same value lengths spell the same pages
-pub same_spelling : (shape other : Shape) (page : Page) (bytes : List ℕ) → shape.size ≡ other.size → ((i : ℕ) → i < 8 → value_length shape i ≡ value_length other i) → IsSpelling shape page bytes → IsSpelling other page bytes
+-- Shapes of one size and the same value lengths spell the same pages.
+pub same_spelling : (shape other : Shape) (page : Page) (bytes : List ℕ) → shape.size ≡ other.size → ((i : ℕ) → i < 8 → listed_length shape i ≡ listed_length other i) → IsSpelling shape page bytes → IsSpelling other page bytes
 same_spelling shape other (kind.Header header) bytes size lengths is = rw size at is
 same_spelling shape other (kind.Inventory inventory) bytes size lengths is = rw size at is
 same_spelling shape other (kind.Tip tip) bytes size lengths is = rw size at is
@@ -153,7 +153,7 @@ same_spelling shape other (kind.Data versions) bytes size lengths is =
     rw (size, length) at is
 same_spelling shape other kind.Blank bytes size lengths is = rw size at is
 
--- shapes that the same first bytes show spell the same pages
+-- Shapes that the same first bytes show spell the same pages.
 pub shown_spelling : (reach : ℕ) (first : List ℕ) (shape other : Shape) (page : Page) (bytes : List ℕ) → ShowsShape first reach shape → ShowsShape first reach other → IsSpelling shape page bytes → IsSpelling other page bytes
 shown_spelling reach first shape other page bytes shows shows' is =
     same_spelling shape other page bytes (shows.size ∙ sym shows'.size) (λ i below.

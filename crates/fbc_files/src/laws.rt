@@ -6,7 +6,7 @@ ghost use Rattle.fbc_kinds.specs.declared.pages.Header.{Header};
 ghost use Rattle.fbc_kinds.specs.declared.pages.Page.{Page};
 ghost use Rattle.fbc_kinds.specs.declared.shapes.Shape.{Shape};
 ghost use Rattle.fbc_kinds.specs.File.{IsFile, IsViewOf, Shows, ShowsPage, page_bytes};
-ghost use Rattle.fbc_kinds.specs.HeaderSpelling.{HasShape, IsShape, ShowsShape, broken_file};
+ghost use Rattle.fbc_kinds.specs.HeaderSpelling.{HasShape, IsFileShape, ShowsShape, broken_file};
 ghost use Rattle.fbc_kinds.specs.Limits.{IsPageSize};
 ghost use Rattle.fbc_kinds.specs.Spelling.{IsSpelling};
 ghost use Rattle.fbc_kinds.specs.View.{View};
@@ -19,7 +19,7 @@ ghost use Rattle.fbc_outside.specs.Bytes.{written};
 pub fn recognised_header()
     ensures unbroken { (header : Header) (bytes : List ℕ) → BeginsWith header bytes → broken_file (take 1024 bytes) (length bytes) ≡ None }
     ensures shown { (reach : ℕ) (header : Header) (bytes : List ℕ) → BeginsWith header bytes → ShowsShape (take 1024 bytes) reach (shape_of reach header) }
-    ensures limits { (reach : ℕ) (header : Header) (bytes : List ℕ) (shape : Shape) → BeginsWith header bytes → ShowsShape (take 1024 bytes) reach shape → IsShape shape }
+    ensures limits { (reach : ℕ) (header : Header) (bytes : List ℕ) (shape : Shape) → BeginsWith header bytes → ShowsShape (take 1024 bytes) reach shape → IsFileShape shape }
     ensures header { (reach : ℕ) (header : Header) (bytes : List ℕ) (shape : Shape) → BeginsWith header bytes → ShowsShape (take 1024 bytes) reach shape → HasShape shape header }
     ensures one { (reach : ℕ) (first : List ℕ) (shape other : Shape) (page : Page) (bytes : List ℕ) → ShowsShape first reach shape → ShowsShape first reach other → IsSpelling shape page bytes → IsSpelling other page bytes }
 {}

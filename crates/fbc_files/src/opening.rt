@@ -1,6 +1,6 @@
 //! Opens a file: whether it is one of this store's, its shape and its length.
 
-ghost use Rattle.std.specs.Prelude.{◌≡◌, ◌≤◌, ◌⊎◌, min, Err, IfOk, IfErr, OnOk};
+ghost use Rattle.std.specs.Prelude.{◌≡◌, ◌≢◌, ◌≤◌, ◌⊎◌, min, Err, IfOk, IfErr};
 ghost use Rattle.fbc_outside.specs.Faults.{Rose, bump};
 ghost use Rattle.fbc_files.specs.Opening.{IsOpened, WhyNotOpened};
 
@@ -21,7 +21,8 @@ pub struct Opened {
     pub length: u64,
 }
 
-/// Opens a file: one call of `length`, and one read of its first 1,024 bytes.
+/// Opens a file: one call of `length`, and one read of its first 1,024 bytes. It reads once whether
+/// the file is opened or refused, and at most once where a call was answered Failed.
 ///
 /// # Errors
 ///
@@ -32,7 +33,7 @@ pub fn open<D: Device>(device: &mut D) -> Result<Opened, OpenFault>
     ensures refused { IfErr result (λ fault. WhyNotOpened fault (D.bytes device.old)) }
     ensures bytes { D.bytes device.new ≡ D.bytes device.old }
     ensures reads { (D.reads device.new ≡ D.reads device.old) ⊎ (D.reads device.new ≡ bump (D.reads device.old)) }
-    ensures read_once { OnOk result (D.reads device.new ≡ bump (D.reads device.old)) }
+    ensures read_once { result ≢ Err OpenFault.DeviceFault → D.reads device.new ≡ bump (D.reads device.old) }
     ensures writes { D.writes device.new ≡ D.writes device.old }
     ensures landings { D.landings device.new ≡ D.landings device.old }
     ensures reach { D.reach device.new ≡ D.reach device.old }

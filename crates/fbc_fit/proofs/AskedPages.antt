@@ -23,11 +23,11 @@ module _ (s : LockState) (owner : ℕ) (resource : Resource) (level : Level) (wo
   abbrev queued : LockState
   queued = after_ask s owner resource level word Queued
 
-  -- it waits, and closes no circle
+  -- It waits, and closes no circle.
   pub asked-queued : (wait : Bool) → answer_to_ask s owner resource level wait ≡ Queued → circle_from queued owner ≡ None → asked s owner resource level word (answer_to_ask s owner resource level wait) ≡ queued
   asked-queued wait answer circle = ap (asked s owner resource level word) answer ∙ ap (λ (found : Option (List ℕ)). if is_some found then withdrawn queued owner else queued) circle
 
-  -- who waits for what it has just asked for entered its request
+  -- Who waits for what it has just asked for entered its request.
   pub asked-waits : request_of s owner resource ≡ None → (answer : Asked) → waiting_of (asked s owner resource level word answer) owner resource ≡ Some level → asked s owner resource level word answer ≡ queued
   asked-waits none Granted waits = refl
   asked-waits none Queued waits = unless (is_some (circle_from queued owner)) waits where
@@ -36,7 +36,7 @@ module _ (s : LockState) (owner : ℕ) (resource : Resource) (level : Level) (wo
     unless false waits' = refl
   asked-waits none _ waits = absurd (let no : None ≡ Some level = rw none at waits in cc)
 
-  -- nothing else was waited for: after the grant nothing is
+  -- Nothing else was waited for: after the grant nothing is.
   module _ (free : wait_of s owner ≡ None) where
     entered-free : (there : Bool) → find (is_wait_of owner) (if there then s.requests else s.requests ++ new_request owner resource word ∷ []) ≡ None
     entered-free true = free
@@ -59,7 +59,7 @@ module _ (s : LockState) (owner : ℕ) (resource : Resource) (level : Level) (wo
         ap (λ (rs : List Request). find (is_wait_of owner) (map (with_grant owner resource level) rs)) (entered-there queued.requests owner resource 0 there)
         ∙ granted-free (entered s.requests owner resource word) (entered-free (is_some (find (is_of owner resource) s.requests)))
 
--- a buffer that waits for nothing stays as it is, and the one that waits is granted
+-- A buffer that waits for nothing stays as it is, and the one that waits is granted.
 waits-not : (b : Buffer) → is_waiting b ≡ false → granted_wait b ≡ b
 waits-not b none = go b.wanted refl where
   go : (wanted : Option Level) → b.wanted ≡ wanted → granted_wait b ≡ b

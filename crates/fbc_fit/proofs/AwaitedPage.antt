@@ -10,7 +10,8 @@ use Rattle.fbc_levels.specs.declared.resources.Request.{Request}
 use Rattle.fbc_levels.specs.LockState.{is_of, is_wait_of, request_of, wait_of}
 use Rattle.fbc_lock_table.specs.Effects.{is_bare_wait_of}
 use Rattle.fbc_lock_table.proofs.Pairs.{find-only}
-use Rattle.fbc_world.specs.Holdings.{is_page_request_of, page_resource}
+use Rattle.fbc_world.specs.Holdings.{is_page_request_of}
+use Rattle.fbc_levels.specs.Resources.{page_resource}
 use Rattle.fbc_world.specs.World.{World}
 use Rattle.fbc_world.proofs.Apart.{once}
 use Rattle.fbc_world.proofs.Found.{find_passes}
@@ -24,7 +25,7 @@ use Rattle.fbc_fit.specs.Fit.{FitsPage, ShowsLock}
 use Rattle.fbc_fit.proofs.Covering.{own_key}
 use Rattle.fbc_fit.proofs.WaitingBuffers.{bare-level, is_awaited, one-waits}
 
--- what is found is among all
+-- What is found is among all.
 found-all : {X : Type 0} (p : X → Bool) (P : X → Type 0) (xs : List X) → All P xs → (x : X) → find p xs ≡ Some x → P x
 found-all p P [] all x found = absurd (cc)
 found-all {X} p P (y ∷ ys) all x found = go (p y) found (found-all p P ys (All-tail P y ys all) x) where
@@ -32,7 +33,7 @@ found-all {X} p P (y ∷ ys) all x found = go (p y) found (found-all p P ys (All
   go true is rest = let same : y ≡ x = cc in subst P same (All-head P y ys all)
   go false is rest = rest is
 
--- the buffer of a request that waits, and of one that does not
+-- The buffer of a request that waits, and of one that does not.
 shows-waiting : (granted : Level) (r : Request) (found : Option Buffer) → ShowsLock granted (Some r) found → is_some r.waiting ≡ true → is_awaited found ≡ true
 shows-waiting granted r None shows waits = absurd shows
 shows-waiting granted r (Some b) (inl same) waits = rw same.1 at waits
@@ -43,7 +44,7 @@ shows-idle granted r None shows idle = absurd shows
 shows-idle granted r (Some b) (inl same) idle = rw same.1 idle
 shows-idle granted r (Some b) (inr late) idle = rw late.1 refl
 
--- what is waited for is not granted yet
+-- What is waited for is not granted yet.
 shows-bare : (shape : Shape) (granted : Level) (r : Request) (found : Option Buffer) → IfSome found (IsBuffer shape) → ShowsLock granted (Some r) found → is_some r.waiting ≡ true → granted ≡ Free
 shows-bare shape granted r None is shows waits = absurd shows
 shows-bare shape granted r (Some b) is (inl same) waits = same.0 ∙ bare-level b.level b.wanted is.level (rw same.1 at waits)
@@ -54,7 +55,7 @@ module _ (shape : Shape) (w : World) (owner : ℕ) (wait : Request) (held : List
   abbrev pub page : ℕ
   page = wait.resource.key
 
-  -- each request for a page is found under its page
+  -- Each request for a page is found under its page.
   pub found-own : All (λ (r : Request). is_page_request_of owner r ≡ true → request_of w.locks owner (page_resource r.resource.key) ≡ Some r) w.locks.requests
   found-own i d within is =
       let r = get_or w.locks.requests i d in
@@ -90,7 +91,7 @@ module _ (shape : Shape) (w : World) (owner : ℕ) (wait : Request) (held : List
   pub free-here : w.granted owner (page_resource page) ≡ Free
   free-here = shows-bare shape _ wait (buffer_of held page) (found-is (IsBuffer shape) held page buffers) shows-wait waits
 
-  -- its request is the one that is bare
+  -- Its request is the one that is bare.
   bare-here : is_bare_wait_of owner wait ≡ true
   bare-here =
       let agrees : wait.granted ≡ Free = rw found-wait at (t.agrees owner (page_resource page) ∙ free-here) in

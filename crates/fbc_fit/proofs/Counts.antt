@@ -6,12 +6,12 @@ use Rattle.std.specs.List.{All, AllPairs, filter, find}
 use Rattle.fbc_lock_table.proofs.Pairs.{AllPairs-head, AllPairs-tail, NotBoth}
 
 module _ {X : Type 0} where
-  -- a change that the test does not see
+  -- A change that the test does not see.
   pub count-map : (p : X → Bool) (f : X → X) → ((x : X) → p (f x) ≡ p x) → (xs : List X) → length (filter p (map f xs)) ≡ length (filter p xs)
   count-map p f same [] = refl
   count-map p f same (x ∷ xs) = grind (arith, common_steps, same x, count-map p f same xs)
 
-  -- what passes nowhere is not found, and leaving it out changes nothing
+  -- What passes nowhere is not found, and leaving it out changes nothing.
   none-found : (k : X → Bool) (xs : List X) → All (λ x. k x ≡ false) xs → find k xs ≡ None
   none-found k [] none = refl
   none-found k (x ∷ xs) none = grind (arith, All-head (λ y. k y ≡ false) x xs none, none-found k xs (All-tail (λ y. k y ≡ false) x xs none))
@@ -28,14 +28,14 @@ module _ {X : Type 0} where
     rest_fails : All (λ y. k y ≡ false) xs
     rest_fails i d within = not_again (get_or xs i d) (k (get_or xs i d)) refl (AllPairs-head (NotBoth k) x xs once i d within)
 
-    -- where one element passes at most, none behind the first that does
+    -- Where one element passes at most, none behind the first that does.
     pub no_more : find k xs ≡ None
     no_more = none-found k xs rest_fails
 
     pub no_more_out : filter (λ y. not (k y)) xs ≡ xs
     no_more_out = none-left_out k xs rest_fails
 
-  -- the one that is left out passes: one less is left
+  -- The one that is left out passes: one less is left.
   pub one_less : (p k : X → Bool) → ((x : X) → k x ≡ true → p x ≡ true) → (xs : List X) → AllPairs (NotBoth k) xs → is_some (find k xs) ≡ true
       → length (filter p xs) ≡ suc (length (filter p (filter (λ x. not (k x)) xs)))
   one_less p k passes [] once there = absurd (cc)
@@ -46,12 +46,12 @@ module _ {X : Type 0} where
     go true here rest there' = grind (arith, common_steps, passes x here, no_more_out k x xs once here)
     go false other rest there' = grind (arith, common_steps, rest there')
 
--- how many pass among two lists
+-- How many pass among two lists.
 pub count-append : {X : Type 0} (p : X → Bool) (xs ys : List X) → length (filter p (xs ++ ys)) ≡ length (filter p xs) + length (filter p ys)
 count-append p [] ys = grind (arith)
 count-append p (x ∷ xs) ys = grind (arith, common_steps, count-append p xs ys)
 
--- two tests that agree where a third passes leave as many
+-- Two tests that agree where a third passes leave as many.
 pub agree-counted : {X : Type 0} (p q k : X → Bool) (xs : List X) → All (λ x. p x ≡ true → q x ≡ k x) xs → length (filter p (filter (λ x. not (q x)) xs)) ≡ length (filter p (filter (λ x. not (k x)) xs))
 agree-counted p q k [] agree = refl
 agree-counted {X} p q k (x ∷ xs) agree = go (p x) refl (All-head (λ y. p y ≡ true → q y ≡ k y) x xs agree) (agree-counted p q k xs (All-tail (λ y. p y ≡ true → q y ≡ k y) x xs agree)) where

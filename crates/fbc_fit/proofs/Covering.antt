@@ -6,14 +6,15 @@ use Rattle.std.specs.List.{AllPairs, filter, find}
 use Rattle.fbc_levels.specs.declared.resources.Request.{Request}
 use Rattle.fbc_levels.specs.LockState.{AreApart, is_of}
 use Rattle.fbc_lock_table.proofs.Pairs.{AllPairs-tail}
-use Rattle.fbc_world.specs.Holdings.{is_page_request_of, page_resource}
+use Rattle.fbc_world.specs.Holdings.{is_page_request_of}
+use Rattle.fbc_levels.specs.Resources.{page_resource}
 use Rattle.fbc_world.proofs.Apart.{once}
 use Rattle.fbc_buffers.specs.declared.buffers.Buffer.{Buffer}
 use Rattle.fbc_buffers.specs.Holding.{buffer_of, without}
 use Rattle.fbc_buffers.proofs.Found.{buffer_of-without}
 use Rattle.fbc_fit.proofs.Counts.{no_more}
 
--- the buffers of a page are left out
+-- The buffers of a page are left out.
 no_more_buffers : (page : ℕ) (held : List Buffer) → length (without page held) ≤ length held
 no_more_buffers page [] = grind (arith)
 no_more_buffers page (b ∷ bs) = grind (arith, common_steps, no_more_buffers page bs)
@@ -23,11 +24,11 @@ fewer_buffers page [] there = absurd (cc)
 fewer_buffers page (b ∷ bs) there = grind (arith, nat_tests, common_steps, there, no_more_buffers page bs, fewer_buffers page bs)
 
 module _ (owner : ℕ) where
-  -- each page that the owner asks for has a buffer
+  -- Each page that the owner asks for has a buffer.
   abbrev pub Covers : List Buffer → List Request → Type 0
   Covers held requests = (page : ℕ) → is_some (find (is_of owner (page_resource page)) requests) ≡ true → is_some (buffer_of held page) ≡ true
 
-  -- the key of a request for a page
+  -- The key of a request for a page.
   pub own_key : (r : Request) → is_page_request_of owner r ≡ true → is_of owner (page_resource r.resource.key) r ≡ true
   own_key r is = grind (arith, nat_tests, is)
 

@@ -2,7 +2,8 @@
 use Rattle.std.proofs.Common.{◌≡◌, ℕ, true, Option, Some, None, subst}
 use Rattle.fbc_levels.specs.declared.levels.Level.TheVariants.{Ex}
 use Rattle.fbc_world.specs.declared.drafts.Draft.{Draft}
-use Rattle.fbc_world.specs.Holdings.{is_draft_of, page_resource}
+use Rattle.fbc_world.specs.Holdings.{is_draft_of}
+use Rattle.fbc_levels.specs.Resources.{page_resource}
 use Rattle.fbc_world.specs.World.{World}
 use Rattle.fbc_legal.specs.Coherent.{IsCoherent, IsDraftHeld}
 use Rattle.fbc_legal.proofs.Exclusion.{same_number}

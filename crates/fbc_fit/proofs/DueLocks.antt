@@ -6,16 +6,18 @@ use Rattle.fbc_kinds.specs.declared.shapes.Shape.{Shape}
 use Rattle.fbc_levels.specs.declared.levels.Level.{Level}
 use Rattle.fbc_levels.specs.declared.resources.Request.{Request}
 use Rattle.fbc_levels.specs.LockState.{request_of}
-use Rattle.fbc_world.specs.Holdings.{holdings_of, page_resource}
+use Rattle.fbc_world.specs.Holdings.{holdings_of}
+use Rattle.fbc_levels.specs.Resources.{page_resource}
 use Rattle.fbc_world.specs.World.{World}
 use Rattle.fbc_buffers.specs.declared.buffers.Buffer.{Buffer}
 use Rattle.fbc_buffers.specs.Holding.{buffer_of, is_waiting}
-use Rattle.fbc_cache.specs.Cache.{CacheState, is_page_level}
+use Rattle.fbc_cache.specs.Cache.{CacheState}
+use Rattle.fbc_levels.specs.Levels.{is_page_level}
 use Rattle.fbc_cache.specs.Wants.{is_lock_due}
 use Rattle.fbc_fit.specs.Fit.{Fits}
 use Rattle.fbc_fit.proofs.Shown.{buffer-asked}
 
--- what a lock that is due tells
+-- What a lock that is due tells.
 pub record IsDue (c : CacheState) (page : ℕ) : Type 0 where
   pub absent : is_none (buffer_of c.held page) ≡ true
   pub room : (length c.held == c.room) ≡ false
@@ -33,7 +35,7 @@ due-is c page level due =
     let all = parts (is_none (buffer_of c.held page)) (length c.held == c.room) (is_page_level level) (list_any is_waiting c.held) due in
     record { absent = all.0; room = all.1; alone = all.2 }
 
--- the page has no buffer, and no page is waited for
+-- The page has no buffer, and no page is waited for.
 pub due-new : (c : CacheState) (page : ℕ) (level : Level) → is_lock_due c page level ≡ true → buffer_of c.held page ≡ None
 due-new c page level due = go (buffer_of c.held page) (due-is c page level due).absent where
   go : (found : Option Buffer) → is_none found ≡ true → found ≡ None

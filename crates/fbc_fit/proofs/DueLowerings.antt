@@ -4,27 +4,28 @@ use Rattle.std.specs.Option.{option_map_or}
 use Rattle.fbc_kinds.specs.declared.shapes.Shape.{Shape}
 use Rattle.fbc_kinds.specs.View.{View}
 use Rattle.fbc_levels.specs.declared.levels.Level.{Level}
-use Rattle.fbc_levels.specs.Levels.{is_free}
+use Rattle.fbc_levels.specs.Levels.{is_free, is_page_level}
 use Rattle.fbc_world.specs.History.{History}
-use Rattle.fbc_world.specs.Holdings.{page_resource}
+use Rattle.fbc_levels.specs.Resources.{page_resource}
 use Rattle.fbc_world.specs.World.{world_of}
 use Rattle.fbc_legal.specs.Causes.{MeetsLowering}
 use Rattle.fbc_legal.specs.Guards.{GuardOfLower}
 use Rattle.fbc_legal.specs.Legal.{IsLegal}
 use Rattle.fbc_legal.specs.Scene.{scene_of}
 use Rattle.fbc_buffers.specs.Holding.{buffer_of}
-use Rattle.fbc_cache.specs.Cache.{CacheState, IsCache, is_page_level, level_in}
+use Rattle.fbc_cache.specs.Cache.{CacheState, IsCache, level_in}
 use Rattle.fbc_cache.specs.Giving.{IsUnsettled}
-use Rattle.fbc_cache.specs.Wants.{MayGiveUp, is_idle, is_low, is_lowering_due, is_part}
+use Rattle.fbc_cache.specs.Wants.{MayGiveUp, is_idle, is_lowering_due, is_part}
+use Rattle.fbc_precedence.specs.Search.{is_blocked}
 use Rattle.fbc_cache.proofs.Low.{path-low}
 use Rattle.fbc_fit.specs.Fit.{Fits}
 use Rattle.fbc_fit.proofs.GivingUp.{settled_guard}
 use Rattle.fbc_fit.proofs.Idle.{IsIdle, idle-clean, idle-granted, idle-loose}
 
--- what a lowering that is due tells
+-- What a lowering that is due tells.
 record IsDue (c : CacheState) (page : ℕ) (level : Level) : Type 0 where
   idle : IsIdle (buffer_of c.held page)
-  free : is_low c.pairs page ≡ false
+  free : is_blocked c.pairs page ≡ false
   usable : (is_free level || is_page_level level) ≡ true
   part : is_part level (level_in c.held page) ≡ true
 
@@ -37,7 +38,7 @@ parts false t u v all = absurd (cc)
 
 due-is : (c : CacheState) (page : ℕ) (level : Level) → is_lowering_due c page level ≡ true → IsDue c page level
 due-is c page level due =
-    let all = parts (option_map_or is_idle (buffer_of c.held page) false) (is_low c.pairs page) (is_free level || is_page_level level) (is_part level (level_in c.held page)) due in
+    let all = parts (option_map_or is_idle (buffer_of c.held page) false) (is_blocked c.pairs page) (is_free level || is_page_level level) (is_part level (level_in c.held page)) due in
     record { idle = all.0; free = all.1; usable = all.2; part = all.3 }
 
 module _ (c : CacheState) (page : ℕ) (level : Level) (due : IsDue c page level) where

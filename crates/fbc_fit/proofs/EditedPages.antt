@@ -23,7 +23,7 @@ use Rattle.fbc_fit.proofs.OwnPlaces.{own_place}
 use Rattle.fbc_fit.proofs.Pages.{page-shows, shows-page}
 use Rattle.fbc_fit.proofs.Shown.{Shows, shows-buffer}
 
--- the buffer of the page with the new content, and one of another page
+-- The buffer of the page with the new content, and one of another page.
 abbrev edited_buffer : ℕ → Option Page → Buffer → Buffer
 edited_buffer page content b = with_dirt page true (with_copy page content b)
 
@@ -89,7 +89,7 @@ module _ (shape : Shape) (w : World) (owner page : ℕ) (edit : Edit) (c : Cache
       pairs = fits.pairs;
     }
 
-  -- an edit that fits
+  -- An edit that fits.
   pub fits-edited : (after : Option Page) → is_some after ≡ true → Fits shape (world_with_edit w owner page edit after) owner (with_edit c page after)
   fits-edited None fitting = absurd (cc)
   fits-edited (Some content) fitting = fits-content content

@@ -22,7 +22,7 @@ module _ (owner : ℕ) where
     go None is = grind (arith, is)
     go (Some level) is = absurd (let no : true ≡ false = rw is at idle in cc)
 
-  -- the page that was waited for, and another one
+  -- The page that was waited for, and another one.
   pub shows-withdrawn : (shape : Shape) (same : Bool) (asked : Option Request) (found : Option Buffer) → IfSome found (IsBuffer shape) → is_awaited found ≡ same → ((r : Request) → asked ≡ Some r → same ≡ false → is_some r.waiting ≡ false)
       → (granted : Level) → (same ≡ true → granted ≡ Free) → (copied : Option Page) (drafted pinned : Bool) → Shows granted asked copied drafted pinned found
       → Shows granted (option_map ends (if same then None else asked)) copied drafted pinned (if same then None else found)

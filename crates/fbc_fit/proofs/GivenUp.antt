@@ -8,7 +8,7 @@ use Rattle.fbc_levels.specs.declared.levels.Level.TheVariants.{Free}
 use Rattle.fbc_levels.specs.declared.resources.Request.{Request}
 use Rattle.fbc_levels.specs.LockState.{request_of}
 use Rattle.fbc_world.specs.declared.events.Act.TheVariants as act
-use Rattle.fbc_world.specs.Holdings.{page_resource}
+use Rattle.fbc_levels.specs.Resources.{page_resource}
 use Rattle.fbc_world.specs.World.{World, acted}
 use Rattle.fbc_world.proofs.Apart.{IsApart}
 use Rattle.fbc_buffers.specs.declared.buffers.Buffer.{Buffer}
@@ -22,7 +22,7 @@ use Rattle.fbc_fit.proofs.OneBuffer.{asked-without, count-without}
 use Rattle.fbc_fit.proofs.Pages.{page-shows, shows-page}
 use Rattle.fbc_fit.proofs.Shown.{Shows, shows-by}
 
--- a page that is given up, and another one
+-- A page that is given up, and another one.
 shows-given_up : (same : Bool) (found : Option Buffer) → (same ≡ true → IsIdle found) → (granted : Level) (asked : Option Request) (copied : Option Page) (drafted pinned : Bool) → Shows granted asked copied drafted pinned found
     → Shows (if same then Free else granted) (if same then None else asked) (if same then None else copied) drafted pinned (if same then None else found)
 shows-given_up true found idle granted asked copied drafted pinned shows =
@@ -36,7 +36,7 @@ module _ (shape : Shape) (w : World) (owner page : ℕ) (landed : Bool) (c : Cac
   there : is_some (buffer_of c.held page) ≡ true
   there = idle-there (buffer_of c.held page) idle
 
-  -- what stands of each page
+  -- What stands of each page.
   copy_after : (number : ℕ) → after.copy owner number ≡ (if page == number then None else w.copy owner number)
   copy_after number = grind (arith, nat_tests)
 

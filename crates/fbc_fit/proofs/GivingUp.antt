@@ -3,15 +3,16 @@ use Rattle.std.proofs.Common.{◌≡◌, ◌∙◌, inl, inr, ap, ℕ, true, sym
 use Rattle.fbc_kinds.specs.declared.shapes.Shape.{Shape}
 use Rattle.fbc_kinds.specs.View.{View}
 use Rattle.fbc_levels.specs.declared.levels.Level.{Level}
-use Rattle.fbc_levels.specs.Levels.{join}
+use Rattle.fbc_levels.specs.Levels.{join, is_page_level}
 use Rattle.fbc_precedence.specs.Precedence.{IsAtOrBefore, IsNextToWrite}
 use Rattle.fbc_world.specs.declared.asks.Ask.TheVariants as ask
 use Rattle.fbc_world.specs.declared.asks.Cause.{Cause}
 use Rattle.fbc_world.specs.History.{History}
-use Rattle.fbc_world.specs.Holdings.{is_draft_of, page_resource}
+use Rattle.fbc_world.specs.Holdings.{is_draft_of}
+use Rattle.fbc_levels.specs.Resources.{page_resource}
 use Rattle.fbc_world.specs.World.{World, world_of}
 use Rattle.fbc_legal.specs.Causes.{IsCauseFor, MeetsCause, MeetsLowering}
-use Rattle.fbc_legal.specs.Coherent.{IsCoherent, is_usable}
+use Rattle.fbc_legal.specs.Coherent.{IsCoherent}
 use Rattle.fbc_legal.specs.Guards.{GuardOfLower, GuardOfWrite}
 use Rattle.fbc_legal.specs.Legal.{IsLegal}
 use Rattle.fbc_legal.specs.Scene.{Scene, scene_of}
@@ -45,7 +46,7 @@ module _ (shape : Shape) (file : View) (history : History) (owner : ℕ) (c : Ca
   pub next_guard : (page next : ℕ) (cause : Cause) → IsUnsettled c page → IsNextToWrite c.pairs page next → IsCauseFor at owner page cause → GuardOfWrite at owner next cause
   next_guard page next cause unsettled first reason =
       let drafted : is_draft_of owner (w.draft next) ≡ true = (fits.pages next).draft ∙ next-dirty c is page next unsettled first in
-      let usable : is_usable (w.granted owner (page_resource next)) ≡ true = ap is_usable (drafted_exclusive w h owner next drafted) in
+      let usable : is_page_level (w.granted owner (page_resource next)) ≡ true = ap is_page_level (drafted_exclusive w h owner next drafted) in
       record {
         drafted = drafted;
         first = λ high there path. none_before shape w owner c fits h next usable first.free high path;
@@ -61,7 +62,7 @@ module _ (shape : Shape) (file : View) (history : History) (owner : ℕ) (c : Ca
   pub settled_guard : (page : ℕ) (level : Level) → MayGiveUp c page level → (IsUnsettled c page → ⊥) → MeetsLowering at owner page level → GuardOfLower at owner (page_resource page) level
   settled_guard page level may settled reason =
       let same : w.granted owner (page_resource page) ≡ level_in c.held page = granted-is (w.granted owner (page_resource page)) _ (buffer_of c.held page) (fits.pages page).lock may.granted in
-      let usable : is_usable (w.granted owner (page_resource page)) ≡ true = ap is_usable same ∙ held_usable c.shape (buffer_of c.held page) (found-is (IsBuffer c.shape) c.held page is.buffers) may.granted in
+      let usable : is_page_level (w.granted owner (page_resource page)) ≡ true = ap is_page_level same ∙ held_usable c.shape (buffer_of c.held page) (found-is (IsBuffer c.shape) c.held page is.buffers) may.granted in
       record {
         part = subst (λ l. join l level ≡ l) (sym same) (part_adds_nothing (level_in c.held page) level may.part);
         by_series = record {

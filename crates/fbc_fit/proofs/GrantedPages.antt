@@ -5,7 +5,7 @@ use Rattle.fbc_levels.specs.declared.levels.Level.{Level}
 use Rattle.fbc_levels.specs.LockState.{LockState, request_of, wait_of}
 use Rattle.fbc_lock_table.specs.Answers.{answer_to_ask}
 use Rattle.fbc_world.specs.declared.events.Act.TheVariants as act
-use Rattle.fbc_world.specs.Holdings.{page_resource}
+use Rattle.fbc_levels.specs.Resources.{page_resource}
 use Rattle.fbc_world.specs.Locks.{granted_to, waiting_of}
 use Rattle.fbc_world.specs.World.{World, acted}
 use Rattle.fbc_buffers.specs.declared.buffers.Buffer.{Buffer}

@@ -5,9 +5,9 @@ use Rattle.fbc_kinds.specs.declared.pages.Page.{Page}
 use Rattle.fbc_kinds.specs.declared.shapes.Shape.{Shape}
 use Rattle.fbc_levels.specs.declared.levels.Level.{Level}
 use Rattle.fbc_levels.specs.declared.levels.Level.TheVariants.{Ex, Free, Pr}
-use Rattle.fbc_world.specs.Holdings.{page_resource}
+use Rattle.fbc_levels.specs.Resources.{page_resource}
 use Rattle.fbc_world.specs.World.{World}
-use Rattle.fbc_legal.specs.Coherent.{is_usable}
+use Rattle.fbc_levels.specs.Levels.{is_page_level}
 use Rattle.fbc_buffers.specs.declared.buffers.Buffer.{Buffer}
 use Rattle.fbc_buffers.specs.Holding.{buffer_of}
 use Rattle.fbc_cache.specs.Cache.{CacheState, HasLevel, IsBuffer, IsCache, is_granted_in, level_in}
@@ -17,7 +17,7 @@ use Rattle.fbc_fit.specs.Fit.{Fits}
 use Rattle.fbc_fit.proofs.HeldLevels.{held_usable}
 use Rattle.fbc_fit.proofs.Shown.{granted-is}
 
--- a page that is held in EX waits for nothing
+-- A page that is held in EX waits for nothing.
 not_wanted : (level : Level) (wanted : Option Level) → HasLevel level wanted → level ≡ Ex → is_none wanted ≡ true
 not_wanted level None has exclusive = refl
 not_wanted level (Some wanted) has exclusive = absurd (let no : Free ≡ Ex = sym has.0 ∙ exclusive in cc)
@@ -26,7 +26,7 @@ exclusive-granted : (shape : Shape) (found : Option Buffer) → IfSome found (Is
 exclusive-granted shape None is exclusive = absurd (cc)
 exclusive-granted shape (Some b) is exclusive = not_wanted b.level b.wanted is.level exclusive
 
--- a page that is read when that is due
+-- A page that is read when that is due.
 unread-granted : (found : Option Buffer) → option_map_or is_unread found false ≡ true → option_map_or (λ (b : Buffer). is_none b.wanted) found false ≡ true
 unread-granted None due = absurd (cc)
 unread-granted (Some b) due = grind (arith, due)
@@ -42,8 +42,8 @@ pub unread-none : (found : Option Buffer) → option_map_or is_unread found fals
 unread-none None due = refl
 unread-none (Some b) due = none_is b.copy (second (is_none b.wanted) (is_none b.copy) due)
 
--- the levels in which a page may be used
-pub usable-is : (level : Level) → is_usable level ≡ true → (level ≡ Pr) ⊎ (level ≡ Ex)
+-- The levels in which a page may be used.
+pub usable-is : (level : Level) → is_page_level level ≡ true → (level ≡ Pr) ⊎ (level ≡ Ex)
 usable-is Pr is = inl refl
 usable-is Ex is = inr refl
 usable-is _ is = absurd (cc)
@@ -55,8 +55,8 @@ module _ (shape : Shape) (w : World) (owner : ℕ) (c : CacheState) (is : IsCach
   pub level-is : is_granted_in c.held page ≡ true → w.granted owner (page_resource page) ≡ level_in c.held page
   level-is granted = granted-is (w.granted owner (page_resource page)) _ (buffer_of c.held page) (fits.pages page).lock granted
 
-  pub granted-usable : is_granted_in c.held page ≡ true → is_usable (w.granted owner (page_resource page)) ≡ true
-  granted-usable granted = ap is_usable (level-is granted) ∙ held_usable c.shape (buffer_of c.held page) found_buffer granted
+  pub granted-usable : is_granted_in c.held page ≡ true → is_page_level (w.granted owner (page_resource page)) ≡ true
+  granted-usable granted = ap is_page_level (level-is granted) ∙ held_usable c.shape (buffer_of c.held page) found_buffer granted
 
   pub may-use : is_granted_in c.held page ≡ true → (w.granted owner (page_resource page) ≡ Pr) ⊎ (w.granted owner (page_resource page) ≡ Ex)
   may-use granted = usable-is (w.granted owner (page_resource page)) (granted-usable granted)

@@ -8,7 +8,8 @@ use Rattle.fbc_levels.specs.declared.resources.Request.{Request}
 use Rattle.fbc_levels.specs.LockState.{is_of, request_of}
 use Rattle.fbc_lock_table.proofs.Pairs.{find-only}
 use Rattle.fbc_world.specs.declared.events.Act.TheVariants as act
-use Rattle.fbc_world.specs.Holdings.{is_page_request_of, page_resource}
+use Rattle.fbc_world.specs.Holdings.{is_page_request_of}
+use Rattle.fbc_levels.specs.Resources.{page_resource}
 use Rattle.fbc_world.specs.World.{World, acted}
 use Rattle.fbc_world.proofs.Apart.{once}
 use Rattle.fbc_legal.proofs.Exclusion.{AreRequestsTrue}
@@ -23,7 +24,7 @@ use Rattle.fbc_fit.proofs.SamePages.{HasSamePages, fits-same}
 use Rattle.fbc_fit.proofs.Waited.{found_waits}
 use Rattle.fbc_fit.proofs.WaitingBuffers.{is_awaited}
 
--- where no buffer waits, each is left
+-- Where no buffer waits, each is left.
 all_left : (held : List Buffer) → list_any is_waiting held ≡ false → filter (λ b. not (is_waiting b)) held ≡ held
 all_left [] none = refl
 all_left (b ∷ bs) none = grind (arith, common_steps, none, all_left bs (grind (arith, none)))
@@ -46,7 +47,7 @@ module _ (shape : Shape) (w : World) (owner : ℕ) (landed : Bool) (c : CacheSta
   idle_own r true own found = rw own (idle_request r.resource.key r (found refl))
   idle_own r false own found = rw own refl
 
-  -- no request of the owner for a page waits
+  -- No request of the owner for a page waits.
   idle : All (λ (r : Request). is_page_wait owner r ≡ false) w.locks.requests
   idle i d within =
       let r = get_or w.locks.requests i d in

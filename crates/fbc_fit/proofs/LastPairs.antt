@@ -3,17 +3,18 @@ use Rattle.std.proofs.Common.{◌≡◌, ◌∙◌, ℕ, Bool, true, false, ◌=
 use Rattle.std.proofs.lemmas.Bool.Decides.{nat_tests}
 use Rattle.fbc_kinds.specs.declared.shapes.Shape.{Shape}
 use Rattle.fbc_levels.specs.declared.levels.Level.TheVariants.{Ex}
-use Rattle.fbc_precedence.specs.Precedence.{IsBlocked, IsPair, StandsBefore as ComesBefore, straight, through}
-use Rattle.fbc_world.specs.Holdings.{page_resource}
+use Rattle.fbc_kinds.specs.Order.{straight, through, StandsBefore}
+use Rattle.fbc_precedence.specs.Precedence.{IsBlocked, IsPair, ComesBefore}
+use Rattle.fbc_levels.specs.Resources.{page_resource}
 use Rattle.fbc_world.specs.World.{World, IsPairIn}
-use Rattle.fbc_world.specs.WriteOrder.{StandsBefore}
-use Rattle.fbc_legal.specs.Coherent.{IsCoherent, is_usable}
+use Rattle.fbc_legal.specs.Coherent.{IsCoherent}
+use Rattle.fbc_levels.specs.Levels.{is_page_level}
 use Rattle.fbc_legal.proofs.Exclusion.{excluded, same_number}
 use Rattle.fbc_legal.proofs.Pins.{clash}
 use Rattle.fbc_cache.specs.Cache.{CacheState}
 use Rattle.fbc_fit.specs.Fit.{Fits}
 
--- the last pair on a way to this page, and whose it is
+-- The last pair on a way to this page, and whose it is.
 record LastPair (w : World) (page : ℕ) : Type 0 where
   owner : ℕ
   high : ℕ
@@ -27,19 +28,19 @@ module _ (shape : Shape) (w : World) (owner : ℕ) (c : CacheState) (fits : Fits
   pub own_pair : (high low : ℕ) → w.has_pair owner high low ≡ true → IsPair c.pairs high low
   own_pair high low has = sym (fits.pairs high low) ∙ has
 
-  -- what the cache puts before a page stands before it
+  -- What the cache puts before a page stands before it.
   pub stands_before : (high low : ℕ) → ComesBefore c.pairs high low → StandsBefore (IsPairIn w) high low
   stands_before high low (straight a b is) = StandsBefore.straight a b (owner, fits.pairs a b ∙ is)
   stands_before high low (through a between b is rest) = StandsBefore.through a between b (owner, fits.pairs a between ∙ is) (stands_before between b rest)
 
-  module _ (h : IsCoherent w) (page : ℕ) (usable : is_usable (w.granted owner (page_resource page)) ≡ true) where
+  module _ (h : IsCoherent w) (page : ℕ) (usable : is_page_level (w.granted owner (page_resource page)) ≡ true) where
     pub its_owner : (other : ℕ) → w.granted other (page_resource page) ≡ Ex → other ≡ owner
     its_owner other exclusive = go (other == owner) refl where
       go : (t : Bool) → other == owner ≡ t → other ≡ owner
       go true its = same_number other owner its
       go false its = absurd (clash _ (excluded w h other owner (page_resource page) (λ e. grind (arith, nat_tests, e, its)) exclusive) usable)
 
-    -- where the cache puts nothing before it, nothing stands before it
+    -- Where the cache puts nothing before it, nothing stands before it.
     pub none_before : (IsBlocked c.pairs page → ⊥) → (high : ℕ) → StandsBefore (IsPairIn w) high page → ⊥
     none_before free high path = go (last_pair w high page path) where
       go : LastPair w page → ⊥

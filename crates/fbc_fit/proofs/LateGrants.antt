@@ -8,7 +8,8 @@ use Rattle.fbc_levels.specs.declared.levels.Level.{Level}
 use Rattle.fbc_levels.specs.declared.resources.Request.{Request}
 use Rattle.fbc_levels.specs.LockState.{is_of, request_of}
 use Rattle.fbc_world.specs.declared.events.Act.TheVariants as act
-use Rattle.fbc_world.specs.Holdings.{is_page_request_of, page_resource}
+use Rattle.fbc_world.specs.Holdings.{is_page_request_of}
+use Rattle.fbc_levels.specs.Resources.{page_resource}
 use Rattle.fbc_world.specs.Locks.{waiting_of, with_grant}
 use Rattle.fbc_world.specs.World.{World, acted}
 use Rattle.fbc_world.proofs.Found.{find_map, find_passes}
@@ -21,7 +22,7 @@ use Rattle.fbc_fit.proofs.Counts.{count-map}
 use Rattle.fbc_fit.proofs.Entering.{entered-there}
 use Rattle.fbc_fit.proofs.Shown.{shows-request}
 
--- who waits has asked
+-- Who waits has asked.
 pub waits-asked : (found : Option Request) (level : Level) → option_and_then (λ (r : Request). r.waiting) found ≡ Some level → is_some found ≡ true
 waits-asked None level waits = absurd (cc)
 waits-asked (Some r) level waits = refl
@@ -33,7 +34,7 @@ module _ (owner page : ℕ) (level : Level) where
   own : (r : Request) → is_of owner (page_resource page) r ≡ true → (granted_request r).waiting ≡ None
   own r is = rw is refl
 
-  -- the lock that is granted
+  -- The lock that is granted.
   shows-granted : (before : Level) (asked : Option Request) (found : Option Buffer) → ((r : Request) → asked ≡ Some r → is_of owner (page_resource page) r ≡ true) → option_and_then (λ (r : Request). r.waiting) asked ≡ Some level
       → ShowsLock before asked found → ShowsLock level (option_map granted_request asked) found
   shows-granted before None found its waits shows = absurd (cc)
@@ -48,14 +49,14 @@ module _ (shape : Shape) (w : World) (owner page : ℕ) (level : Level) (landed 
   abbrev changes : Request → Request
   changes = granted_request owner page level
 
-  -- its request is there, and nothing is entered
+  -- Its request is there, and nothing is entered.
   requests_are : after.locks.requests ≡ map changes w.locks.requests
   requests_are = ap (map changes) (entered-there w.locks.requests owner (page_resource page) 0 (waits-asked (request_of w.locks owner (page_resource page)) level wanted))
 
   asked_is : (number : ℕ) → request_of after.locks owner (page_resource number) ≡ option_map changes (request_of w.locks owner (page_resource number))
   asked_is number = ap (find (is_of owner (page_resource number))) requests_are ∙ find_map (is_of owner (page_resource number)) changes (λ r. refl) w.locks.requests
 
-  -- the lock of a page
+  -- The lock of a page.
   lock-after : (number : ℕ) (same : Bool) → page == number ≡ same → ShowsLock (if same then level else w.granted owner (page_resource number)) (option_map changes (request_of w.locks owner (page_resource number))) (buffer_of c.held number)
   lock-after number true is =
       let here : page ≡ number = grind (arith, nat_tests, is) in

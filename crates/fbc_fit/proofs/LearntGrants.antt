@@ -8,7 +8,7 @@ use Rattle.fbc_levels.specs.declared.levels.Level.{Level}
 use Rattle.fbc_levels.specs.declared.resources.Request.{Request}
 use Rattle.fbc_levels.specs.declared.resources.Resource.{Resource}
 use Rattle.fbc_levels.specs.LockState.{LockState, is_of, request_of, wait_of}
-use Rattle.fbc_world.specs.Holdings.{page_resource}
+use Rattle.fbc_levels.specs.Resources.{page_resource}
 use Rattle.fbc_world.specs.World.{World}
 use Rattle.fbc_world.proofs.Found.{find_passes}
 use Rattle.fbc_legal.proofs.ListTests.{found_any}
@@ -21,7 +21,7 @@ use Rattle.fbc_fit.specs.Fit.{Fits, ShowsLock}
 use Rattle.fbc_fit.proofs.Pages.{page-shows, shows-page}
 use Rattle.fbc_fit.proofs.Shown.{Shows}
 
--- who waits for nothing has no request that waits
+-- Who waits for nothing has no request that waits.
 pub waits-nothing : (s : LockState) (owner : ℕ) (resource : Resource) → wait_of s owner ≡ None → (r : Request) → request_of s owner resource ≡ Some r → r.waiting ≡ None
 waits-nothing s owner resource free r found = go r.waiting refl where
   go : (waits : Option Level) → r.waiting ≡ waits → waits ≡ None
@@ -32,7 +32,7 @@ waits-nothing s owner resource free r found = go r.waiting refl where
       let some = found_any (is_of owner resource) (waits_by owner resource) r passes s.requests found in
       absurd (let no : false ≡ true = sym (waits_free owner resource s free) ∙ some in cc)
 
--- the buffer of a page whose request waits for nothing
+-- The buffer of a page whose request waits for nothing.
 shows-learnt : (granted : Level) (asked : Option Request) (found : Option Buffer) → ((r : Request) → asked ≡ Some r → r.waiting ≡ None) → ShowsLock granted asked found → ShowsLock granted asked (option_map granted_wait found)
 shows-learnt granted None None free shows = shows
 shows-learnt granted None (Some b) free shows = absurd shows

@@ -8,7 +8,8 @@ use Rattle.fbc_levels.specs.declared.resources.Resource.{Resource}
 use Rattle.fbc_levels.specs.LockState.{LockState, is_of, request_of}
 use Rattle.fbc_world.specs.Frames.{requests_of}
 use Rattle.fbc_world.specs.History.{History, Moment}
-use Rattle.fbc_world.specs.Holdings.{Holdings, holdings_of, page_resource}
+use Rattle.fbc_world.specs.Holdings.{Holdings, holdings_of}
+use Rattle.fbc_levels.specs.Resources.{page_resource}
 use Rattle.fbc_world.specs.Owners.{is_alive}
 use Rattle.fbc_world.specs.World.{World, world_of}
 use Rattle.fbc_world.proofs.FirstOf.{find-kept}
@@ -19,7 +20,7 @@ use Rattle.fbc_cache.specs.Cache.{CacheState}
 use Rattle.fbc_fit.specs.Fit.{Fits}
 use Rattle.fbc_fit.proofs.SamePages.{HasSamePages, fits-same}
 
--- an owner's own requests tell which is found
+-- An owner's own requests tell which is found.
 pub own-request : (s : LockState) (owner : ℕ) (resource : Resource) → find (is_of owner resource) (requests_of s owner) ≡ request_of s owner resource
 own-request s owner resource = find-kept (is_of owner resource) (λ (r : Request). r.owner == owner) (λ x is. grind (arith, is)) s.requests
 

@@ -49,4 +49,3 @@ mod IdleWithdrawals
 mod DueLowerings
 mod WantedWrites
 mod WantedLowerings
-mod PageWaits

@@ -13,7 +13,8 @@ use Rattle.fbc_levels.specs.Levels.{is_free}
 use Rattle.fbc_levels.specs.LockState.{LockState, is_of, request_of}
 use Rattle.fbc_lock_table.specs.Effects.{entered, with_granted}
 use Rattle.fbc_world.specs.declared.events.Act.TheVariants as act
-use Rattle.fbc_world.specs.Holdings.{is_page_request_of, page_resource}
+use Rattle.fbc_world.specs.Holdings.{is_page_request_of}
+use Rattle.fbc_levels.specs.Resources.{page_resource}
 use Rattle.fbc_world.specs.Locks.{lowered_to}
 use Rattle.fbc_world.specs.World.{World, acted}
 use Rattle.fbc_world.proofs.Apart.{IsApart}
@@ -33,7 +34,7 @@ use Rattle.fbc_fit.proofs.Pages.{page-shows, shows-page}
 use Rattle.fbc_fit.proofs.Shown.{buffer-asked, shows-by}
 use Rattle.fbc_fit.proofs.LoweredPages.{lowered, lowered-both, lowered_request, shows-lowered}
 
--- where some lock is left, its request stays
+-- Where some lock is left, its request stays.
 lowered-requests : (s : LockState) (owner : ℕ) (resource : Resource) (level : Level) → is_free level ≡ false → (lowered_to s owner resource level).requests ≡ map (with_granted owner resource level) (entered s.requests owner resource 0)
 lowered-requests s owner resource Free held = absurd (cc)
 lowered-requests s owner resource _ held = refl

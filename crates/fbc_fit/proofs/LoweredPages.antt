@@ -6,14 +6,14 @@ use Rattle.fbc_kinds.specs.declared.pages.Page.{Page}
 use Rattle.fbc_levels.specs.declared.levels.Level.{Level}
 use Rattle.fbc_levels.specs.declared.resources.Request.{Request}
 use Rattle.fbc_lock_table.specs.Effects.{with_granted}
-use Rattle.fbc_world.specs.Holdings.{page_resource}
+use Rattle.fbc_levels.specs.Resources.{page_resource}
 use Rattle.fbc_buffers.specs.declared.buffers.Buffer.{Buffer}
 use Rattle.fbc_buffers.specs.Holding.{is_of as is_buffer_of, with_blocking, with_level}
 use Rattle.fbc_fit.specs.Fit.{ShowsLock}
 use Rattle.fbc_fit.proofs.Idle.{IsIdle, idle-learnt}
 use Rattle.fbc_fit.proofs.Shown.{Shows, shows-request}
 
--- the buffer of the page, and one of another page
+-- The buffer of the page, and one of another page.
 abbrev pub lowered : ℕ → Level → Buffer → Buffer
 lowered page level b = with_blocking page false (with_level page level b)
 

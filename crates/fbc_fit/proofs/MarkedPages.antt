@@ -16,7 +16,7 @@ use Rattle.fbc_fit.specs.Fit.{Fits}
 use Rattle.fbc_fit.proofs.Pages.{page-shows, shows-page}
 use Rattle.fbc_fit.proofs.Shown.{Shows, shows-buffer}
 
--- the mark is no matter of the lock, the copy, the draft and the pin
+-- The mark is no matter of the lock, the copy, the draft and the pin.
 shows-marked : (page : ℕ) (granted : Level) (asked : Option Request) (copied : Option Page) (drafted pinned : Bool) (found : Option Buffer) → Shows granted asked copied drafted pinned found → Shows granted asked copied drafted pinned (option_map (with_blocking page true) found)
 shows-marked page granted asked copied drafted pinned None shows = shows
 shows-marked page granted asked copied drafted pinned (Some b) shows = go (is_of page b) refl where

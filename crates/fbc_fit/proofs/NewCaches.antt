@@ -13,7 +13,8 @@ use Rattle.fbc_levels.specs.LockState.{is_of, request_of}
 use Rattle.fbc_world.specs.declared.drafts.Draft.{Draft}
 use Rattle.fbc_world.specs.declared.events.Act.TheVariants as act
 use Rattle.fbc_world.specs.History.{History, happens}
-use Rattle.fbc_world.specs.Holdings.{is_draft_of, is_page_request_of, page_resource}
+use Rattle.fbc_world.specs.Holdings.{is_draft_of, is_page_request_of}
+use Rattle.fbc_levels.specs.Resources.{page_resource}
 use Rattle.fbc_world.specs.World.{World, world_of}
 use Rattle.fbc_world.proofs.FirstOf.{filter-kept}
 use Rattle.fbc_legal.specs.Coherent.{IsCoherent, IsCopyHeld, IsDraftHeld}

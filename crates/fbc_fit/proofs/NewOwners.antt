@@ -21,13 +21,13 @@ grows : (count : ℕ) (act : Act) → count ≤ entered_step count act
 grows count (Enter buffers name) = grind (arith)
 grows count _ = grind (arith)
 
--- what is left of none is none
+-- What is left of none is none.
 none_left : {X : Type 0} (p q : X → Bool) (xs : List X) → filter p xs ≡ [] → filter p (filter q xs) ≡ []
 none_left p q [] none = refl
 none_left p q (x ∷ xs) none = grind (arith, none, none_left p q xs)
 
 module _ (at : Scene) (living : (other : ℕ) → at.world.is_alive other ≡ true → other ≤ entered at.past) (actor owner : ℕ) where
-  -- who acts has come
+  -- Who acts has come.
   came : (act : Act) → MayAct at actor act → Guard at actor act → is_purge_of owner act ≡ false → actor ≤ entered_step (entered at.past) act
   came (Opened locks) lives g spared = absurd (cc)
   came (Enter buffers name) lives g spared = grind (arith, g.next)

@@ -6,7 +6,8 @@ use Rattle.std.proofs.lemmas.List.Kept.{AllPairs-filter}
 use Rattle.std.specs.List.{filter, find}
 use Rattle.fbc_levels.specs.declared.resources.Request.{Request}
 use Rattle.fbc_levels.specs.LockState.{AreApart, is_of, request_of}
-use Rattle.fbc_world.specs.Holdings.{is_page_request_of, page_resource}
+use Rattle.fbc_world.specs.Holdings.{is_page_request_of}
+use Rattle.fbc_levels.specs.Resources.{page_resource}
 use Rattle.fbc_world.specs.World.{World}
 use Rattle.fbc_world.proofs.Apart.{IsApart, once}
 use Rattle.fbc_world.proofs.Found.{find_filter-all, find_filter-none}
@@ -32,7 +33,7 @@ module _ (w : World) (owner page : ℕ) (held : List Buffer) (there : is_some (b
     go true is = find_filter-none (is_of owner (page_resource number)) stays (λ r. stays_if r true is) w.locks.requests
     go false is = find_filter-all (is_of owner (page_resource number)) stays (λ r. stays_if r false is) w.locks.requests
 
-  -- each page that is asked for still has its buffer
+  -- Each page that is asked for still has its buffer.
   covered : Covers owner (without page held) (filter stays w.locks.requests)
   covered number asked = rw (buffer_of-without page held number) (go (page == number) (rw (asked-without number) at asked)) where
     go : (same : Bool) → is_some (if same then None else request_of w.locks owner (page_resource number)) ≡ true → is_some (if same then None else buffer_of held number) ≡ true
@@ -42,7 +43,7 @@ module _ (w : World) (owner page : ℕ) (held : List Buffer) (there : is_some (b
   asked_there : is_some (request_of w.locks owner (page_resource page)) ≡ true
   asked_there = sym (buffer-asked _ _ (buffer_of held page) (pages page).lock) ∙ there
 
-  -- one request less is left, and one buffer
+  -- One request less is left, and one buffer.
   pub one-asked : length (filter (is_page_request_of owner) w.locks.requests) ≡ suc (length (filter (is_page_request_of owner) (filter stays w.locks.requests)))
   one-asked = one_less (is_page_request_of owner) (is_of owner (page_resource page)) (λ r is. grind (arith, nat_tests, is)) w.locks.requests (once owner (page_resource page) w.locks.requests apart) asked_there
 
@@ -55,7 +56,7 @@ module _ (w : World) (owner page : ℕ) (held : List Buffer) (there : is_some (b
   pub one-buffer : length held ≡ suc (length (without page held))
   one-buffer = omega (arith, count-without, one-asked, count)
 
--- where the first buffer of the page goes, none is left
+-- Where the first buffer of the page goes, none is left.
 none_more : (page : ℕ) (held : List Buffer) → length held ≡ length (without page held) → buffer_of held page ≡ None
 none_more page held same = go (buffer_of held page) (fewer_buffers page held) where
   go : (found : Option Buffer) → (is_some found ≡ true → length (without page held) < length held) → found ≡ None

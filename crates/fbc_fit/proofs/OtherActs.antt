@@ -5,13 +5,12 @@ use Rattle.fbc_kinds.specs.declared.shapes.Shape.{Shape}
 use Rattle.fbc_levels.specs.declared.levels.Level.{Level}
 use Rattle.fbc_levels.specs.declared.resources.Resource.{Resource}
 use Rattle.fbc_levels.specs.LockState.{LockState, wait_of}
-use Rattle.fbc_levels.specs.Resources.{is_same_resource}
+use Rattle.fbc_levels.specs.Resources.{is_same_resource, page_resource}
 use Rattle.fbc_lock_table.specs.declared.answers.Asked.{Asked}
 use Rattle.fbc_lock_table.specs.declared.answers.Asked.TheVariants as answers
 use Rattle.fbc_lock_table.specs.Answers.{answer_to_ask}
 use Rattle.fbc_world.specs.declared.events.Act.{Act}
 use Rattle.fbc_world.specs.declared.events.Act.TheVariants as act
-use Rattle.fbc_world.specs.Holdings.{page_resource}
 use Rattle.fbc_world.specs.Locks.{asked}
 use Rattle.fbc_world.specs.World.{World, acted}
 use Rattle.fbc_cache.specs.Cache.{CacheState}
@@ -21,11 +20,11 @@ use Rattle.fbc_fit.proofs.OtherRequests.{same-asked, same-granted, same-lowered,
 use Rattle.fbc_fit.proofs.PageRequests.{same-self}
 use Rattle.fbc_fit.proofs.SamePages.{HasSamePages, HasSameRequests, fits-same}
 
--- what is no page is not this one
+-- What is no page is not this one.
 no_page : (resource : Resource) (page : ℕ) → is_page_series resource ≡ false → is_same_resource resource (page_resource page) ≡ false
 no_page resource page other = grind (arith, nat_tests, other)
 
--- a refused ask enters nothing
+-- A refused ask enters nothing.
 refused-left : (s : LockState) (owner : ℕ) (resource : Resource) (level : Level) (word : ℕ) (answer : Asked) → IsRefused answer → asked s owner resource level word answer ≡ s
 refused-left s owner resource level word (answers.Busy holder held) refused = refl
 refused-left s owner resource level word (answers.Room used) refused = refl

@@ -19,7 +19,7 @@ use Rattle.fbc_cache.specs.Wants.{is_page_series}
 use Rattle.fbc_fit.proofs.PageRequests.{ends, is_page_wait, same-both, same-entered, same-filter, same-map, same-self, same-withdrawn}
 use Rattle.fbc_fit.proofs.SamePages.{HasSameRequests}
 
--- who waits for nothing waits for no page
+-- Who waits for nothing waits for no page.
 pub no_page_waits : (s : LockState) (owner : ℕ) → wait_of s owner ≡ None → list_any (is_page_wait owner) s.requests ≡ false
 no_page_waits s owner free = none_any (is_wait_of owner) (is_page_wait owner) (λ r is. grind (arith, is)) s.requests free
 
@@ -30,7 +30,7 @@ pub same-reaped : (s : LockState) (owner dead : ℕ) → dead ≢ owner → HasS
 same-reaped s owner dead apart = same-filter owner (λ r. not (r.owner == dead)) (λ r is. grind (arith, nat_tests, is, apart)) s.requests
 
 module _ (owner : ℕ) (resource : Resource) (other : is_page_series resource ≡ false) where
-  -- a request for a page is none for the resource
+  -- A request for a page is none for the resource.
   differs : (r : Request) → is_page_request_of owner r ≡ true → is_of owner resource r ≡ false
   differs r is = grind (arith, nat_tests, other, is)
 
@@ -60,7 +60,7 @@ module _ (owner : ℕ) (resource : Resource) (other : is_page_series resource �
     same-lowered Free = same-filter owner (λ r. not (is_of owner resource r)) (λ r is. rw (differs r is) refl) s.requests
     same-lowered level = entered-map (with_granted owner resource level) (λ r. refl) (λ r. refl) (granted-left level) 0
 
-    -- after the ask it waits for no page either
+    -- After the ask it waits for no page either.
     page_wait_left : (level : Level) (r : Request) → is_page_wait owner (with_waiting owner resource level r) ≡ is_page_wait owner r
     page_wait_left level r = go (is_page_request_of owner r) refl where
       go : (own : Bool) → is_page_request_of owner r ≡ own → is_page_wait owner (with_waiting owner resource level r) ≡ is_page_wait owner r

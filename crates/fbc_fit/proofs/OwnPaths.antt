@@ -4,12 +4,14 @@ use Rattle.std.proofs.lemmas.Bool.Decides.{nat_tests}
 use Rattle.fbc_kinds.specs.declared.shapes.Shape.{Shape}
 use Rattle.fbc_kinds.specs.View.{View}
 use Rattle.fbc_levels.specs.declared.levels.Level.TheVariants.{Ex}
-use Rattle.fbc_precedence.specs.Precedence.{StandsBefore as ComesBefore, straight, through}
+use Rattle.fbc_kinds.specs.Order.{straight, through, StandsBefore}
+use Rattle.fbc_precedence.specs.Precedence.{ComesBefore}
 use Rattle.fbc_world.specs.History.{History}
-use Rattle.fbc_world.specs.Holdings.{is_draft_of, page_resource}
+use Rattle.fbc_world.specs.Holdings.{is_draft_of}
+use Rattle.fbc_levels.specs.Resources.{page_resource}
 use Rattle.fbc_world.specs.World.{World, IsPairIn, world_of}
-use Rattle.fbc_world.specs.WriteOrder.{StandsBefore}
-use Rattle.fbc_legal.specs.Coherent.{IsCoherent, is_usable}
+use Rattle.fbc_legal.specs.Coherent.{IsCoherent}
+use Rattle.fbc_levels.specs.Levels.{is_page_level}
 use Rattle.fbc_legal.specs.Guards.{GuardOfBefore, IsFreeToAct}
 use Rattle.fbc_legal.specs.Legal.{IsLegal}
 use Rattle.fbc_legal.specs.Scene.{scene_of}
@@ -22,26 +24,26 @@ use Rattle.fbc_fit.proofs.HeldPages.{exclusive-is}
 use Rattle.fbc_fit.proofs.LastPairs.{its_owner, own_pair}
 
 module _ (shape : Shape) (w : World) (owner : ℕ) (c : CacheState) (fits : Fits shape w owner c) (h : IsCoherent w) where
-  -- the page with which a way of the cache begins
+  -- The page with which a way of the cache begins.
   first_drafted : (high low : ℕ) → ComesBefore c.pairs high low → is_draft_of owner (w.draft high) ≡ true
   first_drafted high low (straight a b is) = (h.pairs owner a b (fits.pairs a b ∙ is)).1
   first_drafted high low (through a between b is rest) = (h.pairs owner a between (fits.pairs a between ∙ is)).1
 
-  drafted_usable : (page : ℕ) → is_draft_of owner (w.draft page) ≡ true → is_usable (w.granted owner (page_resource page)) ≡ true
-  drafted_usable page drafted = ap is_usable (drafted_exclusive w h owner page drafted)
+  drafted_usable : (page : ℕ) → is_draft_of owner (w.draft page) ≡ true → is_page_level (w.granted owner (page_resource page)) ≡ true
+  drafted_usable page drafted = ap is_page_level (drafted_exclusive w h owner page drafted)
 
-  -- a pair whose low page the owner may use
-  its_pair : (high low : ℕ) → IsPairIn w high low → is_usable (w.granted owner (page_resource low)) ≡ true → w.has_pair owner high low ≡ true
+  -- A pair whose low page the owner may use.
+  its_pair : (high low : ℕ) → IsPairIn w high low → is_page_level (w.granted owner (page_resource low)) ≡ true → w.has_pair owner high low ≡ true
   its_pair high low pair usable =
       subst (λ o. w.has_pair o high low ≡ true) (its_owner shape w owner c fits h low usable pair.0 (h.pairs pair.0 high low pair.1).2) pair.1
 
-  pub comes_before : (high low : ℕ) → StandsBefore (IsPairIn w) high low → is_usable (w.granted owner (page_resource low)) ≡ true → ComesBefore c.pairs high low
+  pub comes_before : (high low : ℕ) → StandsBefore (IsPairIn w) high low → is_page_level (w.granted owner (page_resource low)) ≡ true → ComesBefore c.pairs high low
   comes_before high low (StandsBefore.straight a b pair) usable = straight a b (own_pair shape w owner c fits a b (its_pair a b pair usable))
   comes_before high low (StandsBefore.through a between b pair rest) usable = go (comes_before between b rest usable) where
     go : ComesBefore c.pairs between b → ComesBefore c.pairs a b
     go way = through a between b (own_pair shape w owner c fits a between (its_pair a between pair (drafted_usable between (first_drafted between b way)))) way
 
--- a pair that an edit needs
+-- A pair that an edit needs.
 needed : (dirty same : Bool) → (dirty && not same) ≡ true → (dirty ≡ true) × (same ≡ false)
 needed true false is = (refl, refl)
 needed true true is = absurd (cc)
@@ -59,5 +61,5 @@ pair-guard shape file history owner c page high legal is fits free exclusive nee
       apart = λ same. grind (arith, nat_tests, both.1, same);
       drafted = drafted;
       exclusive = exclusive-is shape w owner c is fits page exclusive;
-      order = λ way. before (comes_before shape w owner c fits h page high way (ap is_usable (drafted_exclusive w h owner high drafted)));
+      order = λ way. before (comes_before shape w owner c fits h page high way (ap is_page_level (drafted_exclusive w h owner high drafted)));
     }

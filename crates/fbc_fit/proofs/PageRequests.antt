@@ -8,7 +8,8 @@ use Rattle.fbc_levels.specs.declared.resources.Request.{Request}
 use Rattle.fbc_levels.specs.declared.resources.Resource.{Resource}
 use Rattle.fbc_levels.specs.LockState.{is_of}
 use Rattle.fbc_lock_table.specs.Effects.{entered, is_bare_wait_of, new_request, without_wait}
-use Rattle.fbc_world.specs.Holdings.{is_page_request_of, page_resource}
+use Rattle.fbc_world.specs.Holdings.{is_page_request_of}
+use Rattle.fbc_levels.specs.Resources.{page_resource}
 use Rattle.fbc_world.proofs.FirstOf.{filter-kept}
 use Rattle.fbc_world.proofs.Found.{find_filter-all, find_map, find_passes}
 use Rattle.fbc_world.proofs.Requests.{find_entered, is_key}
@@ -16,12 +17,12 @@ use Rattle.fbc_cache.specs.Wants.{is_page_series}
 use Rattle.fbc_fit.proofs.Counts.{count-append, count-map}
 use Rattle.fbc_fit.proofs.SamePages.{HasSameRequests}
 
--- whether the owner waits for a page by it
+-- Whether the owner waits for a page by it.
 abbrev pub is_page_wait : ℕ → Request → Bool
 is_page_wait owner r = is_page_request_of owner r && is_some r.waiting
 
 module _ (owner : ℕ) where
-  -- a request that is found under a page is one for a page
+  -- A request that is found under a page is one for a page.
   pub own-page : (page : ℕ) (r : Request) → is_of owner (page_resource page) r ≡ true → is_page_request_of owner r ≡ true
   own-page page r is = grind (arith, nat_tests, is)
 
@@ -31,7 +32,7 @@ module _ (owner : ℕ) where
   pub same-both : (rs ss ts : List Request) → HasSameRequests owner rs ss → HasSameRequests owner ss ts → HasSameRequests owner rs ts
   same-both rs ss ts first second = record { asked = λ page. second.asked page ∙ first.asked page; count = second.count ∙ first.count }
 
-  -- a change that leaves the requests for pages
+  -- A change that leaves the requests for pages.
   pub same-map : (f : Request → Request) → ((r : Request) → (f r).owner ≡ r.owner) → ((r : Request) → (f r).resource ≡ r.resource) → ((r : Request) → is_page_request_of owner r ≡ true → f r ≡ r)
       → (rs : List Request) → HasSameRequests owner rs (map f rs)
   same-map f by of keeps rs = record {
@@ -43,14 +44,14 @@ module _ (owner : ℕ) where
     go page None its = refl
     go page (Some r) its = ap Some (keeps r (own-page page r (its r refl)))
 
-  -- those that are left are all those for pages
+  -- Those that are left are all those for pages.
   pub same-filter : (q : Request → Bool) → ((r : Request) → is_page_request_of owner r ≡ true → q r ≡ true) → (rs : List Request) → HasSameRequests owner rs (filter q rs)
   same-filter q stay rs = record {
     asked = λ page. find_filter-all (is_of owner (page_resource page)) q (λ r is. stay r (own-page page r is)) rs;
     count = ap (λ (ts : List Request). length ts) (filter-kept (is_page_request_of owner) q stay rs);
   }
 
-  -- a request for no page is entered
+  -- A request for no page is entered.
   pub same-entered : (resource : Resource) (word : ℕ) → is_page_series resource ≡ false → (rs : List Request) → HasSameRequests owner rs (entered rs owner resource word)
   same-entered resource word other rs = record { asked = asked_is; count = count_is (is_some (find (is_of owner resource) rs)) } where
     or_none : (found : Option Request) → option_or found None ≡ found
@@ -73,7 +74,7 @@ module _ (owner : ℕ) where
     count_is true = refl
     count_is false = grind (arith, common_steps, no_page, count-append (is_page_request_of owner) rs (new_request owner resource word ∷ []))
 
-  -- the owner's waits end where it waits for no page
+  -- The owner's waits end where it waits for no page.
   not_bare : (r : Request) → is_page_wait owner r ≡ false → is_page_request_of owner r ≡ true → is_bare_wait_of owner r ≡ false
   not_bare r none is = grind (arith, none, is)
 

@@ -3,12 +3,13 @@ use Rattle.std.proofs.Common.{◌≡◌, ℕ, List, Option, sym, subst}
 use Rattle.fbc_buffers.specs.declared.buffers.Buffer.{Buffer}
 use Rattle.fbc_buffers.specs.Holding.{buffer_of}
 use Rattle.fbc_levels.specs.LockState.{request_of}
-use Rattle.fbc_world.specs.Holdings.{is_draft_of, page_resource}
+use Rattle.fbc_world.specs.Holdings.{is_draft_of}
+use Rattle.fbc_levels.specs.Resources.{page_resource}
 use Rattle.fbc_world.specs.World.{World}
 use Rattle.fbc_fit.specs.Fit.{FitsPage}
 use Rattle.fbc_fit.proofs.Shown.{Shows}
 
--- what is said of the page where this is its buffer
+-- What is said of the page where this is its buffer.
 abbrev pub ShowsPage : World → ℕ → ℕ → Option Buffer → Type 0
 ShowsPage w owner page found =
     Shows (w.granted owner (page_resource page)) (request_of w.locks owner (page_resource page)) (w.copy owner page) (is_draft_of owner (w.draft page)) (w.is_pinned owner page) found

@@ -34,7 +34,7 @@ module _ (shape : Shape) (w : World) (owner page : ℕ) (c : CacheState) (fits :
   found_touched : (number : ℕ) → buffer_of (touched page (map (with_pin page true) c.held)) number ≡ option_map (with_pin page true) (buffer_of c.held number)
   found_touched number = buffer_of-touched page (map (with_pin page true) c.held) number ∙ found_map true number
 
-  -- the page is pinned
+  -- The page is pinned.
   pub fits-pinned : is_granted_in c.held page ≡ true → Fits shape (pinned w owner page true) owner (record c { held = touched page (map (with_pin page true) c.held) })
   fits-pinned granted = record {
     shape_is = fits.shape_is;
@@ -44,7 +44,7 @@ module _ (shape : Shape) (w : World) (owner page : ℕ) (c : CacheState) (fits :
     pairs = fits.pairs;
   }
 
-  -- the page is pinned no more
+  -- The page is pinned no more.
   pub fits-unpinned : Fits shape (pinned w owner page false) owner (after_unpin c page)
   fits-unpinned = record {
     shape_is = fits.shape_is;

@@ -12,7 +12,8 @@ use Rattle.fbc_levels.specs.declared.resources.Request.{Request}
 use Rattle.fbc_levels.specs.LockState.{LockState, is_of, request_of}
 use Rattle.fbc_lock_table.specs.declared.answers.Asked.TheVariants.{Queued}
 use Rattle.fbc_lock_table.specs.Effects.{after_ask, entered, new_request, with_waiting}
-use Rattle.fbc_world.specs.Holdings.{is_page_request_of, page_resource}
+use Rattle.fbc_world.specs.Holdings.{is_page_request_of}
+use Rattle.fbc_levels.specs.Resources.{page_resource}
 use Rattle.fbc_world.specs.World.{World}
 use Rattle.fbc_world.proofs.Found.{find_map, find_passes}
 use Rattle.fbc_world.proofs.Requests.{find_entered, is_key}
@@ -25,7 +26,7 @@ use Rattle.fbc_fit.proofs.Counts.{count-append, count-map}
 use Rattle.fbc_fit.proofs.Pages.{page-shows, shows-page}
 use Rattle.fbc_fit.proofs.Shown.{Shows, buffer-asked, shows-by}
 
--- a page that has no buffer is not asked for
+-- A page that has no buffer is not asked for.
 unheld-free : (granted : Level) (asked : Option Request) → ShowsLock granted asked None → granted ≡ Free
 unheld-free granted None shows = shows
 unheld-free granted (Some r) shows = absurd shows
@@ -34,7 +35,7 @@ none-found : (asked : Option Request) → is_some asked ≡ false → asked ≡ 
 none-found None none = refl
 none-found (Some r) none = absurd (cc)
 
--- the page that is asked for, and another one
+-- The page that is asked for, and another one.
 shows-queued : (page : ℕ) (level : Level) (new : Request) → new.waiting ≡ Some level → (same : Bool) (found : Option Buffer) → (same ≡ true → found ≡ None)
     → (granted : Level) (asked : Option Request) (copied : Option Page) (drafted pinned : Bool) → Shows granted asked copied drafted pinned found
     → Shows granted (if same then Some new else asked) copied drafted pinned (cond same (Some (waiting_buffer page level)) found)

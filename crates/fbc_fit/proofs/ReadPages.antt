@@ -19,7 +19,7 @@ use Rattle.fbc_fit.specs.Fit.{Fits, FitsPage}
 use Rattle.fbc_fit.proofs.Pages.{page-shows, shows-page}
 use Rattle.fbc_fit.proofs.Shown.{Shows, shows-buffer, shows-by}
 
--- the page is held and has no copy
+-- The page is held and has no copy.
 abbrev pub IsUnread : Option Buffer → Type 0
 IsUnread found = option_map_or is_unread found false ≡ true
 
@@ -30,7 +30,7 @@ unread-bare (Some b) unread = go b.copy refl where
   go None is = refl
   go (Some content) is = absurd (grind (arith, unread, is))
 
--- the buffer of the page that is read, and one of another page
+-- The buffer of the page that is read, and one of another page.
 shows-read : (page number : ℕ) (shown : Option Page) (same : Bool) → number == page ≡ same → (found : Option Buffer) → IfSome found (λ b. b.page ≡ number) → (same ≡ true → IsUnread found)
     → (granted : Level) (asked : Option Request) (copied : Option Page) (drafted pinned : Bool) → Shows granted asked copied drafted pinned found
     → Shows granted asked (if same then shown else copied) drafted pinned (option_map (with_copy page shown) found)
@@ -44,7 +44,7 @@ shows-read page number shown false is (Some b) of unread granted asked copied dr
     rw there shows
 
 module _ (shape : Shape) (w : World) (owner page : ℕ) (landed : Bool) (c : CacheState) (unread : IsUnread (buffer_of c.held page)) (fits : Fits shape w owner c) where
-  -- the page under another number that is the same
+  -- The page under another number that is the same.
   same-unread : (number : ℕ) → number == page ≡ true → IsUnread (buffer_of c.held number)
   same-unread number is =
       let same : page ≡ number = grind (arith, nat_tests, is) in
@@ -78,7 +78,7 @@ module _ (shape : Shape) (w : World) (owner page : ℕ) (landed : Bool) (c : Cac
       pairs = fits.pairs;
     }
 
-  -- where the bytes spell no page the owner still has no copy
+  -- Where the bytes spell no page the owner still has no copy.
   module _ (damaged : w.kept page ≡ None) where
     abbrev unchanged : World
     unchanged = acted shape w owner (act.Read page false) landed

@@ -15,22 +15,22 @@ use Rattle.fbc_world.specs.Locks.{asked, unless_circle}
 use Rattle.fbc_fit.proofs.Counts.{count-map}
 use Rattle.fbc_fit.proofs.Entering.{entered-there}
 
--- how many pages the owner asks for
+-- How many pages the owner asks for.
 abbrev pub count_in : ℕ → List Request → ℕ
 count_in owner requests = length (filter (is_page_request_of owner) requests)
 
--- of fewer requests fewer are for pages
+-- Of fewer requests fewer are for pages.
 pub count_filter : (p q : Request → Bool) (rs : List Request) → length (filter p (filter q rs)) ≤ length (filter p rs)
 count_filter p q [] = grind (arith)
 count_filter p q (r ∷ rs) = grind (arith, common_steps, count_filter p q rs)
 
--- of one more request at most one more is
+-- Of one more request at most one more is.
 count_push : (p : Request → Bool) (rs : List Request) (x : Request) → length (filter p (rs ++ x ∷ [])) ≡ (if p x then suc (length (filter p rs)) else length (filter p rs))
 count_push p [] x = grind (arith, common_steps)
 count_push p (r ∷ rs) x = grind (arith, common_steps, count_push p rs x)
 
 module _ (other : ℕ) where
-  -- a request is entered where there is room for it
+  -- A request is entered where there is room for it.
   few_entered : (rs : List Request) (owner : ℕ) (resource : Resource) (word room : ℕ) → (is_page_request_of other (new_request owner resource word) ≡ true → count_in other rs < room) → count_in other rs ≤ room → count_in other (with_entered rs owner resource word) ≤ room
   few_entered rs owner resource word room fresh few = go (is_some (find (is_of owner resource) rs)) where
     pushed : (t : Bool) → (t ≡ true → count_in other rs < room) → (if t then suc (count_in other rs) else count_in other rs) ≤ room

@@ -33,7 +33,7 @@ use Rattle.fbc_legal.proofs.Induction.{requests_true}
 use Rattle.fbc_fit.proofs.NewOwners.{none-asked}
 use Rattle.fbc_fit.proofs.RequestCounts.{count_filter, count_in, few_asked, few_map, few_there, few_withdrawn}
 
--- who waits has asked, and so has who has a level
+-- Who waits has asked, and so has who has a level.
 waits_there : (found : Option Request) (level : Level) → option_and_then (λ (r : Request). r.waiting) found ≡ Some level → is_some found ≡ true
 waits_there None level waits = absurd (cc)
 waits_there (Some r) level waits = refl
@@ -49,7 +49,7 @@ module _ (at : Scene) (agree : AreRequestsTrue at.world) (actor : ℕ) (other : 
   abbrev room : ℕ
   room = w.buffers other
 
-  -- a page is asked for where there is room
+  -- A page is asked for where there is room.
   fresh_page : (series : Series) (key : ℕ) (level : Level) (word : ℕ) → GuardOfSeries at actor series key level word → is_page_request_of other (new_request actor (record { series = series; key = key }) word) ≡ true → count_in other w.locks.requests < room
   fresh_page series.Page key level word g is = go (actor == other) refl is where
     go : (same : Bool) → actor == other ≡ same → is_page_request_of other (new_request actor (record { series = series.Page; key = key }) word) ≡ true → count_in other w.locks.requests < room
@@ -60,7 +60,7 @@ module _ (at : Scene) (agree : AreRequestsTrue at.world) (actor : ℕ) (other : 
   fresh_page series.Transaction key level word g is = absurd (grind (arith, is))
   fresh_page series.Relation key level word g is = absurd (grind (arith, is))
 
-  -- who has a level that is lowered has asked already
+  -- Who has a level that is lowered has asked already.
   few_lowered : (resource : Resource) (level : Level) → is_free level ≡ false → join (w.granted actor resource) level ≡ w.granted actor resource → count_in other (map (with_granted actor resource level) (with_entered w.locks.requests actor resource 0)) ≤ room
   few_lowered resource level held part =
       few_there other w.locks actor resource (with_granted actor resource level) (λ r. refl) room
@@ -70,7 +70,7 @@ module _ (at : Scene) (agree : AreRequestsTrue at.world) (actor : ℕ) (other : 
   few_lowering resource Free part = grind (arith, few, count_filter (is_page_request_of other) (λ r. not (is_of actor resource r)) w.locks.requests)
   few_lowering resource level part = few_lowered resource level refl part
 
-  -- after each act there is room for what an owner asks for
+  -- After each act there is room for what an owner asks for.
   few_after : (act : Act) (landed : Bool) → Guard at actor act → (entered at.past < actor → requests_of w.locks actor ≡ []) → count_in other (acted at.shape w actor act landed).locks.requests ≤ (acted at.shape w actor act landed).buffers other
   few_after (Opened locks) landed g new = grind (arith)
   few_after (Enter buffers name) landed g new = go (other == actor) refl where

@@ -5,18 +5,19 @@ use Rattle.fbc_kinds.specs.declared.shapes.Shape.{Shape}
 use Rattle.fbc_levels.specs.declared.levels.Level.{Level}
 use Rattle.fbc_levels.specs.declared.resources.Request.{Request}
 use Rattle.fbc_levels.specs.LockState.{is_of, request_of}
-use Rattle.fbc_world.specs.Holdings.{is_draft_of, is_page_request_of, page_resource}
+use Rattle.fbc_world.specs.Holdings.{is_draft_of, is_page_request_of}
+use Rattle.fbc_levels.specs.Resources.{page_resource}
 use Rattle.fbc_world.specs.World.{World}
 use Rattle.fbc_buffers.specs.Holding.{buffer_of}
 use Rattle.fbc_cache.specs.Cache.{CacheState}
 use Rattle.fbc_fit.specs.Fit.{Fits, FitsPage, ShowsLock}
 
--- the owner's requests for pages are the same in both lists
+-- The owner's requests for pages are the same in both lists.
 pub record HasSameRequests (owner : ℕ) (before after : List Request) : Type 0 where
   pub asked : (page : ℕ) → find (is_of owner (page_resource page)) after ≡ find (is_of owner (page_resource page)) before
   pub count : length (filter (is_page_request_of owner) after) ≡ length (filter (is_page_request_of owner) before)
 
--- all that is said of the owner's pages is the same in both worlds
+-- All that is said of the owner's pages is the same in both worlds.
 pub record HasSamePages (owner : ℕ) (w v : World) : Type 0 where
   pub granted : (page : ℕ) → v.granted owner (page_resource page) ≡ w.granted owner (page_resource page)
   pub requests : HasSameRequests owner w.locks.requests v.locks.requests

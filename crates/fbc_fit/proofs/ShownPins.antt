@@ -8,7 +8,7 @@ use Rattle.fbc_buffers.specs.declared.buffers.Buffer.{Buffer}
 use Rattle.fbc_buffers.specs.Holding.{is_of, with_pin}
 use Rattle.fbc_fit.proofs.Shown.{Shows, shows-buffer}
 
--- the buffer of the page, and one of another page
+-- The buffer of the page, and one of another page.
 module _ (page number : ℕ) (pins : Bool) where
   pub shows-pinned : (same : Bool) → number == page ≡ same → (found : Option Buffer) → IfSome found (λ b. b.page ≡ number) → (same ≡ true → pins ≡ true → is_some found ≡ true)
       → (granted : Level) (asked : Option Request) (copied : Option Page) (drafted stands : Bool) → Shows granted asked copied drafted stands found

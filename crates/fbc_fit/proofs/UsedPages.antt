@@ -11,7 +11,7 @@ use Rattle.fbc_fit.proofs.OwnPlaces.{own_place}
 use Rattle.fbc_fit.proofs.PinnedPages.{fits-pinned}
 
 module _ (shape : Shape) (w : World) (owner page : ℕ) (c : CacheState) (fits : Fits shape w owner c) where
-  -- the page was pinned before
+  -- The page was pinned before.
   pinned_before : is_pinned_in c.held page ≡ true → (number : ℕ) → (if number == page then true else w.is_pinned owner number) ≡ w.is_pinned owner number
   pinned_before pin number = go (number == page) refl where
     go : (same : Bool) → number == page ≡ same → (if same then true else w.is_pinned owner number) ≡ w.is_pinned owner number

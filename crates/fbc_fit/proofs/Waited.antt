@@ -9,7 +9,7 @@ use Rattle.fbc_levels.specs.declared.levels.Level.{Level}
 use Rattle.fbc_levels.specs.declared.resources.Request.{Request}
 use Rattle.fbc_levels.specs.LockState.{is_of, is_wait_of, request_of, wait_of}
 use Rattle.fbc_lock_table.proofs.Pairs.{find-only}
-use Rattle.fbc_world.specs.Holdings.{page_resource}
+use Rattle.fbc_levels.specs.Resources.{page_resource}
 use Rattle.fbc_world.specs.World.{World}
 use Rattle.fbc_world.proofs.Apart.{IsApart, once}
 use Rattle.fbc_world.proofs.Found.{find_passes}
@@ -19,7 +19,7 @@ use Rattle.fbc_cache.specs.Cache.{CacheState}
 use Rattle.fbc_cache.specs.Wants.{is_page_series}
 use Rattle.fbc_fit.specs.Fit.{Fits, ShowsLock, WaitsForPages}
 
--- what is true of all is true of the one that is found
+-- What is true of all is true of the one that is found.
 found_one : {X : Type 0} (P : X → Type 0) (q : X → Bool) (xs : List X) → All P xs → (x : X) → find q xs ≡ Some x → P x
 found_one P q [] all x found = absurd (cc)
 found_one {X} P q (y ∷ ys) all x found = go (q y) (found_one P q ys (All-tail P y ys all) x) found where
@@ -29,13 +29,13 @@ found_one {X} P q (y ∷ ys) all x found = go (q y) (found_one P q ys (All-tail 
       subst P same (All-head P y ys all)
   go false rest is = rest is
 
--- the buffer of a page that is waited for
+-- The buffer of a page that is waited for.
 wait_shown : (level : Level) (r : Request) (found : Option Buffer) → is_some r.waiting ≡ true → ShowsLock level (Some r) found → option_map_or is_waiting found false ≡ true
 wait_shown level r (Some b) waits (inl same) = ap (λ (wanted : Option Level). is_some wanted) (sym same.1) ∙ waits
 wait_shown level r (Some b) waits (inr late) = absurd (let no : false ≡ true = rw late.1 at waits in cc)
 wait_shown level r None waits shows = absurd shows
 
--- where the buffer of a page waits, some buffer does
+-- Where the buffer of a page waits, some buffer does.
 pub found_waits : (held : List Buffer) (page : ℕ) → option_map_or is_waiting (buffer_of held page) false ≡ true → list_any is_waiting held ≡ true
 found_waits [] page waits = absurd (cc)
 found_waits (b ∷ bs) page waits = grind (arith, waits, found_waits bs page)
@@ -47,7 +47,7 @@ module _ (shape : Shape) (w : World) (owner : ℕ) (c : CacheState) (apart : IsA
   waits : (r : Request) → is_wait_of owner r ≡ true → is_some r.waiting ≡ true
   waits r is = grind (arith, is)
 
-  -- the request by which the owner waits is the one for its page
+  -- The request by which the owner waits is the one for its page.
   pub is_its_request : (r : Request) → wait_of w.locks owner ≡ Some r → is_page_series r.resource ≡ true → request_of w.locks owner (page_resource r.resource.key) ≡ Some r
   is_its_request r found page =
       found_one (λ x. is_of owner (page_resource r.resource.key) x ≡ true → request_of w.locks owner (page_resource r.resource.key) ≡ Some x) (is_wait_of owner) w.locks.requests

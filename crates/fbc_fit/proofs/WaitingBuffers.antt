@@ -12,11 +12,11 @@ use Rattle.fbc_buffers.specs.declared.buffers.Buffer.{Buffer}
 use Rattle.fbc_buffers.specs.Holding.{buffer_of, is_waiting}
 use Rattle.fbc_cache.specs.Cache.{HasCopy, HasLevel, IsBuffer}
 
--- whether there is a buffer that waits
+-- Whether there is a buffer that waits.
 abbrev pub is_awaited : Option Buffer → Bool
 is_awaited found = option_map_or is_waiting found false
 
--- one buffer waits at most
+-- One buffer waits at most.
 pub some-waits : (held : List Buffer) (page : ℕ) → is_awaited (buffer_of held page) ≡ true → 1 ≤ length (filter is_waiting held)
 some-waits [] page waits = absurd (cc)
 some-waits (b ∷ bs) page waits = go (b.page == page) waits (some-waits bs page) where
@@ -34,12 +34,12 @@ one-waits (b ∷ bs) one m n first second = go (b.page == m) refl first (b.page 
   go false other first' true is second' rest = absurd (grind (arith, common_steps, one, second', some-waits bs m first'))
   go false other first' false also second' rest = rest (grind (arith, common_steps, one)) m n first' second'
 
--- how many wait, and how many do not
+-- How many wait, and how many do not.
 pub both-counted : (held : List Buffer) → length held ≡ length (filter is_waiting held) + length (filter (λ b. not (is_waiting b)) held)
 both-counted [] = refl
 both-counted (b ∷ bs) = grind (arith, common_steps, both-counted bs)
 
--- the first buffer stays
+-- The first buffer stays.
 pub first-left : (q : Buffer → Bool) (page : ℕ) (held : List Buffer) (b : Buffer) → buffer_of held page ≡ Some b → q b ≡ true → buffer_of (filter q held) page ≡ Some b
 first-left q page [] b found stays = absurd (cc)
 first-left q page (x ∷ xs) b found stays = go (x.page == page) refl found (first-left q page xs b) where
@@ -53,7 +53,7 @@ first-left q page (x ∷ xs) b found stays = go (x.page == page) refl found (fir
     step true left = rw is left
     step false left = left
 
--- such a buffer has no level yet and no copy, and is neither dirty nor pinned
+-- Such a buffer has no level yet and no copy, and is neither dirty nor pinned.
 pub bare-level : (level : Level) (wanted : Option Level) → HasLevel level wanted → is_some wanted ≡ true → level ≡ Free
 bare-level level None has waits = absurd (cc)
 bare-level level (Some wanted) has waits = has.0

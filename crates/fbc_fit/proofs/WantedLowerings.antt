@@ -8,7 +8,7 @@ use Rattle.fbc_levels.specs.declared.resources.Resource.{Resource}
 use Rattle.fbc_world.specs.declared.asks.Ask.TheVariants as ask
 use Rattle.fbc_world.specs.declared.asks.Cause.TheVariants.{Evict}
 use Rattle.fbc_world.specs.History.{History}
-use Rattle.fbc_world.specs.Holdings.{page_resource}
+use Rattle.fbc_levels.specs.Resources.{page_resource}
 use Rattle.fbc_world.specs.World.{world_of}
 use Rattle.fbc_legal.specs.Guards.{GuardOfLower}
 use Rattle.fbc_legal.specs.Legal.{IsLegal}
@@ -24,13 +24,13 @@ use Rattle.fbc_cache.proofs.DueWants.{due-wants}
 use Rattle.fbc_fit.specs.Fit.{Fits}
 use Rattle.fbc_fit.proofs.DueLowerings.{due_guard}
 
--- a page is given up
+-- A page is given up.
 record IsGivingUp (resource : Resource) (level : Level) : Type 0 where
   page : ℕ
   of : resource ≡ page_resource page
   to : level ≡ Free
 
--- a page that has a buffer is itself given up
+-- A page that has a buffer is itself given up.
 own-lowering : (page : ℕ) (resource : Resource) (level : Level) (waits does valid : Bool) → (if waits then Must ask.Look else if not does then Must (ask.Lower (page_resource page) Free) else if valid then Here else Must (ask.Read page)) ≡ Must (ask.Lower resource level)
     → IsGivingUp resource level
 own-lowering page resource level true does valid is = absurd (cc)
@@ -39,7 +39,7 @@ own-lowering page resource level false true true is = absurd (cc)
 own-lowering page resource level false true false is = absurd (cc)
 
 module _ (c : CacheState) (need : Need) (resource : Resource) (level : Level) where
-  -- else the victim is
+  -- Else the victim is.
   evicting : Evicts c need (Must (ask.Lower resource level)) → IsGivingUp resource level
   evicting evicts = given evicts.is_due where
     asked : evicts.asked ≡ ask.Lower resource level

@@ -10,7 +10,7 @@ use Rattle.fbc_world.specs.declared.asks.Ask.TheVariants as ask
 use Rattle.fbc_world.specs.declared.asks.Cause.{Cause}
 use Rattle.fbc_world.specs.declared.asks.Cause.TheVariants.{Evict}
 use Rattle.fbc_world.specs.History.{History}
-use Rattle.fbc_world.specs.Holdings.{page_resource}
+use Rattle.fbc_levels.specs.Resources.{page_resource}
 use Rattle.fbc_world.specs.World.{world_of}
 use Rattle.fbc_legal.specs.Causes.{IsFullFor}
 use Rattle.fbc_legal.specs.Guards.{GuardOfWrite}
@@ -28,7 +28,7 @@ use Rattle.fbc_fit.proofs.DueLocks.{none_asked}
 use Rattle.fbc_fit.proofs.GivingUp.{next_guard}
 use Rattle.fbc_fit.proofs.Shown.{buffer-asked}
 
--- a page that has a buffer comes to no write
+-- A page that has a buffer comes to no write.
 held-writes_not : (page next : ℕ) (cause : Cause) (waits does valid : Bool) → (if waits then Must ask.Look else if not does then Must (ask.Lower (page_resource page) Free) else if valid then Here else Must (ask.Read page)) ≡ Must (ask.Write next cause) → ⊥
 held-writes_not page next cause true does valid is = absurd (cc)
 held-writes_not page next cause false false valid is = absurd (cc)

@@ -9,7 +9,8 @@ use Rattle.fbc_levels.specs.declared.resources.Request.{Request}
 use Rattle.fbc_levels.specs.LockState.{is_of, request_of, wait_of}
 use Rattle.fbc_lock_table.specs.Effects.{is_bare_wait_of}
 use Rattle.fbc_world.specs.declared.events.Act.TheVariants as act
-use Rattle.fbc_world.specs.Holdings.{is_page_request_of, page_resource}
+use Rattle.fbc_world.specs.Holdings.{is_page_request_of}
+use Rattle.fbc_levels.specs.Resources.{page_resource}
 use Rattle.fbc_world.specs.World.{World, acted}
 use Rattle.fbc_world.proofs.Apart.{once}
 use Rattle.fbc_world.proofs.Found.{find_filter-once, find_map}
@@ -29,7 +30,7 @@ use Rattle.fbc_fit.proofs.Pages.{page-shows, shows-page}
 use Rattle.fbc_fit.proofs.WaitingBuffers.{both-counted, first-left, is_awaited, some-waits}
 use Rattle.fbc_fit.proofs.Shown.{shows-by}
 
--- a request that goes, or is left
+-- A request that goes, or is left.
 still-none : (found : Option Request) (same : Bool) → found ≡ None → found ≡ (if same then None else found)
 still-none found true none = none
 still-none found false none = refl
@@ -92,7 +93,7 @@ module _ (shape : Shape) (w : World) (owner : ℕ) (landed : Bool) (c : CacheSta
       (shows-withdrawn owner c.shape (number == page) (request_of w.locks owner (page_resource number)) (buffer_of c.held number) (found-is (IsBuffer c.shape) c.held number is.buffers) (awaited number)
       (idle-there c.shape w owner wait c.held waiting of_page t is.one_wait is.buffers fits.pages number) _ (free_at number) _ _ _ (page-shows w owner number c.held (fits.pages number))))
 
-  -- among the requests for pages the one for the awaited page is bare
+  -- Among the requests for pages the one for the awaited page is bare.
   agree : All (λ (r : Request). is_page_request_of owner r ≡ true → is_bare_wait_of owner r ≡ is_of owner (page_resource page) r) w.locks.requests
   agree i d within own =
       let r = get_or w.locks.requests i d in

@@ -20,22 +20,23 @@ use Rattle.fbc_buffers.specs.declared.buffers.Buffer.{Buffer}
 use Rattle.fbc_buffers.specs.Holding.{buffer_of, is_of, with_dirt}
 use Rattle.fbc_buffers.proofs.Found.{buffer_of-map, buffer_of-page}
 use Rattle.fbc_cache.specs.Cache.{CacheState}
-use Rattle.fbc_cache.specs.Wants.{is_low, is_write_due}
+use Rattle.fbc_cache.specs.Wants.{is_write_due}
+use Rattle.fbc_precedence.specs.Search.{is_blocked}
 use Rattle.fbc_fit.specs.Fit.{Fits}
 use Rattle.fbc_fit.proofs.Pages.{page-shows, shows-page}
 use Rattle.fbc_fit.proofs.Shown.{Shows, shows-buffer}
 
--- a page that is the low one of no pair: its pairs are those of which it is the high page
-cleared-pairs : (page high low : ℕ) (pairs : List Edge) → is_low pairs page ≡ false → list_any (is_pair high low) (filter (is_without page) pairs) ≡ (if high == page then false else list_any (is_pair high low) pairs)
+-- A page that is the low one of no pair: its pairs are those of which it is the high page.
+cleared-pairs : (page high low : ℕ) (pairs : List Edge) → is_blocked pairs page ≡ false → list_any (is_pair high low) (filter (is_without page) pairs) ≡ (if high == page then false else list_any (is_pair high low) pairs)
 cleared-pairs page high low [] free = grind (arith, nat_tests)
 cleared-pairs page high low (e ∷ es) free = grind (arith, nat_tests, free, cleared-pairs page high low es)
 
--- an owner has no draft that was taken from it
+-- An owner has no draft that was taken from it.
 none_own : (owner : ℕ) (draft : Option Draft) → is_draft_of owner (without owner draft) ≡ false
 none_own owner None = refl
 none_own owner (Some d) = grind (arith, nat_tests)
 
--- the buffer of the page that is written, and one of another page
+-- The buffer of the page that is written, and one of another page.
 shows-written : (owner page number : ℕ) (same : Bool) → number == page ≡ same → (granted : Level) (asked : Option Request) (copied : Option Page) (draft : Option Draft) (pinned : Bool) (found : Option Buffer)
     → IfSome found (λ b. b.page ≡ number) → Shows granted asked copied (is_draft_of owner draft) pinned found
     → Shows granted asked copied (is_draft_of owner (if same then without owner draft else draft)) pinned (option_map (with_dirt page false) found)
@@ -52,7 +53,7 @@ module _ (shape : Shape) (w : World) (owner page : ℕ) (cause : Cause) (landed 
   abbrev after : World
   after = acted shape w owner (act.Write page cause false) landed
 
-  free : is_low c.pairs page ≡ false
+  free : is_blocked c.pairs page ≡ false
   free = grind (arith, due)
 
   pub fits-written : Fits shape after owner (record c { held = map (with_dirt page false) c.held; pairs = filter (is_without page) c.pairs })

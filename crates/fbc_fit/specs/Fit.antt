@@ -12,7 +12,8 @@ use Rattle.fbc_lock_table.specs.declared.answers.Asked.{Asked}
 use Rattle.fbc_lock_table.specs.declared.answers.Asked.TheVariants as asked
 use Rattle.fbc_lock_table.specs.Answers.{answer_to_ask}
 use Rattle.fbc_precedence.specs.Precedence.{is_pair}
-use Rattle.fbc_world.specs.Holdings.{holdings_of, is_draft_of, page_resource}
+use Rattle.fbc_world.specs.Holdings.{holdings_of, is_draft_of}
+use Rattle.fbc_levels.specs.Resources.{page_resource}
 use Rattle.fbc_world.specs.declared.events.Act.{Act}
 use Rattle.fbc_world.specs.declared.events.Act.TheVariants as act
 use Rattle.fbc_world.specs.World.{World}

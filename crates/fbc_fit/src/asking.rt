@@ -6,8 +6,8 @@ ghost use Rattle.fbc_kinds.specs.declared.edits.Edit.{Edit};
 ghost use Rattle.fbc_kinds.specs.declared.shapes.Shape.{Shape};
 ghost use Rattle.fbc_levels.specs.declared.levels.Level.{Level};
 ghost use Rattle.fbc_levels.specs.declared.levels.Level.TheVariants.{Ex};
-ghost use Rattle.fbc_precedence.specs.Precedence.{StandsBefore};
-ghost use Rattle.fbc_world.specs.Holdings.{page_resource};
+ghost use Rattle.fbc_precedence.specs.Precedence.{ComesBefore};
+ghost use Rattle.fbc_levels.specs.Resources.{page_resource};
 ghost use Rattle.fbc_world.specs.World.{page_after, world_of};
 ghost use Rattle.fbc_world.specs.History.{History};
 ghost use Rattle.fbc_world.specs.declared.asks.Ask.TheVariants as ask;
@@ -55,13 +55,14 @@ pub fn edits_are_made_under_locks()
         → IsLegal shape file history → IsCache c → Fits shape (world_of shape file history) owner c → MayEdit c page edit
         → is_some (page_after shape (world_of shape file history) owner page edit) ≡ true }
     ensures base { (shape : Shape) (file : View) (history : History) (owner : ℕ) (c : CacheState) (page : ℕ) (edit : Edit)
-        → Fits shape (world_of shape file history) owner c → MayEdit c page edit → IsBased page edit → HasBase (scene_of shape file history) owner page edit }
+        → Fits shape (world_of shape file history) owner c → MayEdit c page edit → IsBased page edit
+        → HasBase (scene_of shape file history) owner page edit }
 {}
 
 /// A pair that an edit of the page needs is recorded legally, where the page does not stand before the high one already.
 pub fn needed_pairs_are_legal()
     ensures { (shape : Shape) (file : View) (history : History) (owner : ℕ) (c : CacheState) (page high : ℕ)
         → IsLegal shape file history → IsCache c → Fits shape (world_of shape file history) owner c → IsFreeToAct (scene_of shape file history) owner
-        → level_in c.held page ≡ Ex → needs_pair c.held page high ≡ true → ¬ StandsBefore c.pairs page high
+        → level_in c.held page ≡ Ex → needs_pair c.held page high ≡ true → ¬ ComesBefore c.pairs page high
         → GuardOfBefore (scene_of shape file history) owner high page }
 {}

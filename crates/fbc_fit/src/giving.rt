@@ -6,7 +6,7 @@ ghost use Rattle.fbc_kinds.specs.View.{View};
 ghost use Rattle.fbc_kinds.specs.declared.shapes.Shape.{Shape};
 ghost use Rattle.fbc_levels.specs.declared.levels.Level.{Level};
 ghost use Rattle.fbc_levels.specs.declared.resources.Resource.{Resource};
-ghost use Rattle.fbc_world.specs.Holdings.{page_resource};
+ghost use Rattle.fbc_levels.specs.Resources.{page_resource};
 ghost use Rattle.fbc_world.specs.World.{world_of};
 ghost use Rattle.fbc_world.specs.History.{History};
 ghost use Rattle.fbc_world.specs.declared.asks.Cause.{Cause};

@@ -1,5 +1,32 @@
-//! The fit of a cache to a history: what the cache of an owner says of its pages is what the history says, and the steps that the
-//! cache asks for are legal.
+//! The fit of a cache to a history: what the cache of an owner says of its pages is what the history says,
+//! and the steps that the cache asks for are legal.
+//!
+//! - **What fits** (`Fits` of `specs/Fit`): of each page the request, with the level that is granted and the
+//!   one that is waited for, the copy, whether its draft is the owner's, and whether it is pinned; the pairs;
+//!   and for how many pages there is room. What a buffer waits for may be granted already, by the step of
+//!   another.
+//! - **Proved**: what a cache that fits asks for is legal.
+//!   - Where a lock is due, its owner waits for nothing, has no request for the page, and has room for it
+//!     (`due_locks_are_free_to_be_asked`). Whether the wait is upward no cache can know.
+//!   - Reads and lowerings that are due (`due_reads_are_legal`, `due_lowerings_are_legal`), what a want gives
+//!     (`wanted_writes_are_legal`, `wanted_lowerings_are_legal`), and what giving up a page gives
+//!     (`given_up_pages_are_written_legally`, `given_up_pages_are_lowered_legally`).
+//!   - What its owner does in it: pins (`held_pages_are_pinned_legally`), edits, as to locks, base and fit
+//!     (`edits_are_made_under_locks`), and the pairs that an edit needs (`needed_pairs_are_legal`). What an
+//!     edit leans on is no matter of the cache.
+//! - **Proved**: what keeps the fit.
+//!   - A cache that holds nothing fits where its owner comes (`new_caches_fit`); others' events leave the fit
+//!     (`others_leave_the_fit`), and so do grants before the cache learns of them (`late_grants_fit`).
+//!   - What the cache takes: `granted_locks_fit`, `queued_locks_fit`, `looks_that_grant_fit`,
+//!     `withdrawals_fit`, `other_withdrawals_leave_the_fit`, `read_pages_fit`, `written_pages_fit`,
+//!     `lowered_pages_fit`, `other_acts_leave_the_fit`.
+//!   - What its owner does in it: `pinned_pages_fit`, `unpinned_pages_fit`, `uses_and_marks_are_no_events`,
+//!     `recorded_pairs_fit`, `edited_pages_fit`.
+//! - **Supposed**, each where a law needs it: the history is legal; the owner waits for no number and no
+//!   relation where it asks for a page; there is a cause to write and a reason to lower; a format carries the
+//!   number of its page.
+//! - A read for which there was no memory does not keep the fit (docs/DECISIONS.md). The functions do nothing
+//!   when they are run, and are what `fbc_downgrade` cites.
 #![tactic(auto)]
 
 mod asking;

@@ -32,7 +32,8 @@ pub fn unpinned_pages_fit()
 /// A further use of a pinned page, and the mark that somebody asks for a page, are no events.
 pub fn uses_and_marks_are_no_events()
     ensures used { (shape : Shape) (file : View) (history : History) (owner : ℕ) (c : CacheState) (page : ℕ)
-        → Fits shape (world_of shape file history) owner c → is_pinned_in c.held page ≡ true → Fits shape (world_of shape file history) owner (after_pin c page) }
+        → Fits shape (world_of shape file history) owner c → is_pinned_in c.held page ≡ true
+        → Fits shape (world_of shape file history) owner (after_pin c page) }
     ensures marked { (shape : Shape) (file : View) (history : History) (owner : ℕ) (c : CacheState) (page : ℕ)
         → Fits shape (world_of shape file history) owner c → Fits shape (world_of shape file history) owner (after_mark c page) }
 {}

@@ -17,7 +17,7 @@ use Rattle.fbc_kinds.specs.InventorySpelling.{IsInventory}
 use Rattle.fbc_kinds.specs.TipSpelling.{IsTip}
 use Rattle.fbc_kinds.specs.Edits.{covers, is_next, may_be, stands_in, takes_page, with_mark, with_state}
 
--- an element after a write elsewhere
+-- An element after a write elsewhere.
 pub slice_get-set_other : {X : Type 0} (xs : List X) (i j : ℕ) (y : X) → j ≢ i → slice_get (set xs i y) j ≡ slice_get xs j
 slice_get-set_other [] i j y other = refl
 slice_get-set_other (x ∷ xs) zero zero y other = absurd (other refl)
@@ -25,13 +25,13 @@ slice_get-set_other (x ∷ xs) zero (suc j) y other = refl
 slice_get-set_other (x ∷ xs) (suc i) zero y other = refl
 slice_get-set_other (x ∷ xs) (suc i) (suc j) y other = slice_get-set_other xs i j y (λ same. other (ap suc same))
 
--- the element that was written
+-- The element that was written.
 pub slice_get-set_same : {X : Type 0} (xs : List X) (i : ℕ) (y : X) → i < length xs → slice_get (set xs i y) i ≡ Some y
 slice_get-set_same [] i y inside = absurd (omega arith)
 slice_get-set_same (x ∷ xs) zero y inside = refl
 slice_get-set_same (x ∷ xs) (suc i) y inside = slice_get-set_same xs i y (omega arith)
 
--- a header keeps its limits under a new next number
+-- A header keeps its limits under a new next number.
 pub IsHeader-next : (size next : ℕ) (header : Header) → IsHeader size header → is_next size (length header.tips) next ≡ true → IsHeader size (record header { next = next })
 IsHeader-next size next header is fits = record {
   page_size = is.page_size;
@@ -50,13 +50,13 @@ IsHeader-next size next header is fits = record {
   oldest = is.oldest;
 }
 
--- where both of two tests pass, each one passes
+-- Where both of two tests pass, each one passes.
 pub both_hold : (a b : Bool) → (a && b) ≡ true → (a ≡ true) × (b ≡ true)
 both_hold true true passes = (refl, refl)
 both_hold true false passes = cc
 both_hold false b passes = cc
 
--- what a test of two numbers tells
+-- What a test of two numbers tells.
 pub same_from_test : (a b : ℕ) → (a == b) ≡ true → a ≡ b
 same_from_test a b passes = grind (arith, nat_tests)
 
@@ -69,7 +69,7 @@ some_from_test n passes = grind (arith, nat_tests)
 other_from_test : (a b : ℕ) → not (a == b) ≡ true → a ≢ b
 other_from_test a b passes = grind (arith, nat_tests)
 
--- one more page number
+-- One more page number.
 ArePageNumbers-push : (pages : List ℕ) (number : ℕ) → ArePageNumbers pages → 0 < number → number < number_limit → ArePageNumbers (pages ++ number ∷ [])
 ArePageNumbers-push pages number are some small i inside =
     elim (cases_lt i (length pages)) [
@@ -79,7 +79,7 @@ ArePageNumbers-push pages number are some small i inside =
           rw (get_or_push pages number 0 i (sym last)) (record { names = some; below = small })
     ]
 
--- a header keeps its limits with one more transaction inventory page
+-- A header keeps its limits with one more transaction inventory page.
 pub IsHeader-tip : (size number : ℕ) (header : Header) → IsHeader size header → number < number_limit → takes_page tip_limit header.tips number ≡ true → IsHeader size (record header { tips = header.tips ++ number ∷ [] })
 IsHeader-tip size number header is small fits =
     let tests = both_hold (not (number == 0)) (nat_lt (length header.tips) tip_limit) fits in
@@ -104,7 +104,7 @@ IsHeader-tip size number header is small fits =
       oldest = is.oldest;
     }
 
--- a header keeps its limits with one more page inventory page
+-- A header keeps its limits with one more page inventory page.
 pub IsHeader-inventory : (size : ℕ) (header : Header) → IsHeader size header → nat_lt header.inventories inventory_limit ≡ true → IsHeader size (record header { inventories = header.inventories + 1 })
 IsHeader-inventory size header is fits =
     let room = below_from_test header.inventories inventory_limit fits in
@@ -125,7 +125,7 @@ IsHeader-inventory size header is fits =
       oldest = is.oldest;
     }
 
--- a relation keeps its limits with one more pointer page
+-- A relation keeps its limits with one more pointer page.
 pub IsRelation-pointer : (number : ℕ) (entry : Relation) → IsRelation entry → number < number_limit → takes_page pointer_limit entry.pointers number ≡ true → IsRelation (record entry { pointers = entry.pointers ++ number ∷ [] })
 IsRelation-pointer number entry is small fits =
     let tests = both_hold (not (number == 0)) (nat_lt (length entry.pointers) pointer_limit) fits in
@@ -140,7 +140,7 @@ IsRelation-pointer number entry is small fits =
       pointers = ArePageNumbers-push entry.pointers number is.pointers (some_from_test number tests.0) small;
     }
 
--- what stands in a place after a write had this fact before it, or is what was written
+-- What stands in a place after a write had this fact before it, or is what was written.
 after_write : {X : Type 0} (P : X → Type 0) (xs : List X) (at i : ℕ) (old y x : X) → slice_get xs at ≡ Some old → slice_get (set xs at y) i ≡ Some x
     → P y → ((z : X) → slice_get xs i ≡ Some z → P z) → P x
 after_write P xs at i old y x there is written before =
@@ -151,7 +151,7 @@ after_write P xs at i old y x there is written before =
       | inr other ↦ before x (sym (slice_get-set_other xs at i y other) ∙ is)
     ]
 
--- a header keeps its limits with another entry of the same name
+-- A header keeps its limits with another entry of the same name.
 pub IsHeader-entry : (size at : ℕ) (header : Header) (old entry : Relation) → IsHeader size header → slice_get header.relations at ≡ Some old → entry.name ≡ old.name → IsRelation entry
     → IsHeader size (record header { relations = set header.relations at entry })
 IsHeader-entry size at header old entry is there named right =
@@ -183,7 +183,7 @@ IsHeader-entry size at header old entry is there named right =
       oldest = is.oldest;
     }
 
--- a mark that is set stays set where another one is
+-- A mark that is set stays set where another one is.
 still_set : (marks : List Bool) (i j : ℕ) → slice_get marks j ≡ Some true → slice_get (set marks i true) j ≡ Some true
 still_set marks i j there =
     elim (cases_eq j i) [
@@ -191,7 +191,7 @@ still_set marks i j there =
       | inr other ↦ slice_get-set_other marks i j true other ∙ there
     ]
 
--- an inventory keeps its limits where a mark is set
+-- An inventory keeps its limits where a mark is set.
 pub IsInventory-taken : (size number : ℕ) (inventory : Inventory) → IsInventory size inventory → IsInventory size (with_mark size number true inventory)
 IsInventory-taken size number inventory is = record {
   page = is.page;
@@ -201,17 +201,17 @@ IsInventory-taken size number inventory is = record {
   header = λ first. still_set inventory.taken (number % inventory_bits size) 0 (is.header first);
 }
 
--- numbers with one quotient and one remainder are equal
+-- Numbers with one quotient and one remainder are equal.
 same_from_parts : (n a b : ℕ) → a / n ≡ b / n → a % n ≡ b % n → a ≡ b
 same_from_parts n a b quotient remainder =
     sym (div-add-mod' a n) ∙ ap (λ q. q * n + a % n) quotient ∙ ap (λ r. b / n * n + r) remainder ∙ div-add-mod' b n
 
--- a number with quotient 0 and remainder 0 is 0
+-- A number with quotient 0 and remainder 0 is 0.
 zero_from_parts : (n a : ℕ) → a / n ≡ 0 → a % n ≡ 0 → a ≡ 0
 zero_from_parts n a quotient remainder =
     sym (div-add-mod' a n) ∙ ap (λ q. q * n + a % n) quotient ∙ ap (λ r. 0 * n + r) remainder ∙ omega arith
 
--- an inventory keeps its limits where the mark of another page than itself and the header is cleared
+-- An inventory keeps its limits where the mark of another page than itself and the header is cleared.
 pub IsInventory-freed : (size number : ℕ) (inventory : Inventory) → IsInventory size inventory
     → (covers size inventory.sequence number && not (number == 0) && not (number == inventory.page)) ≡ true → IsInventory size (with_mark size number false inventory)
 IsInventory-freed size number inventory is fits =
@@ -233,7 +233,7 @@ IsInventory-freed size number inventory is fits =
           ∙ is.header first;
     }
 
--- a state that a number may have is active at number 0, and never limbo
+-- A state that a number may have is active at number 0, and never limbo.
 active_at_zero : (number : ℕ) (state : State) → number ≡ 0 → may_be number state ≡ true → state ≡ Active
 active_at_zero number Active none may = refl
 active_at_zero number Limbo none may = cc
@@ -246,7 +246,7 @@ never_limbo number Limbo may same = cc
 never_limbo number Dead may same = cc
 never_limbo number Committed may same = cc
 
--- a transaction inventory page keeps its limits where a number gets a state that it may have
+-- A transaction inventory page keeps its limits where a number gets a state that it may have.
 pub IsTip-state : (size number : ℕ) (state : State) (tip : Tip) → IsPageSize size → IsTip size tip
     → (stands_in size tip.sequence number && may_be number state) ≡ true → IsTip size (with_state size number state tip)
 IsTip-state size number state tip right_size is fits =

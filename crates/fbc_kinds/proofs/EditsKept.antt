@@ -27,16 +27,16 @@ use Rattle.fbc_kinds.specs.DataSpelling.{IsCell, IsContent, IsData, IsVersion, e
 use Rattle.fbc_kinds.specs.Edits.{HasCellNumbers, IsEdit, IsShape, IsWithinLimits, Tried, applied, covers, data_formatted, given, inventory_formatted, is_version, own_marks, pointed, pointer_formatted, suits, takes_page, tip_formatted, value_length, with_entry}
 use Rattle.fbc_kinds.proofs.EditLimits.{IsHeader-entry, IsHeader-inventory, IsHeader-next, IsHeader-tip, IsInventory-freed, IsInventory-taken, IsRelation-pointer, IsTip-state, below_from_test, both_hold, same_from_test, slice_get-set_same, some_from_test}
 
--- what is given passes the test
+-- What is given passes the test.
 given_some : (b : Bool) (p q : Page) → given b p ≡ Some q → (b ≡ true) × (p ≡ q)
 given_some true p q is = (refl, same_Some p q is)
 given_some false p q is = cc
 
--- a page that is given within its limits is within them
+-- A page that is given within its limits is within them.
 kept_given : (shape : Shape) (b : Bool) (p q : Page) → given b p ≡ Some q → (b ≡ true → IsWithinLimits shape p) → IsWithinLimits shape q
 kept_given shape b p q is within = let parts = given_some b p q is in subst (IsWithinLimits shape) parts.1 (within parts.0)
 
--- what the tests of a version tell
+-- What the tests of a version tell.
 back_from_test : (back_page back_cell : ℕ) → back_page ≡ 0 → (not (back_page == 0) || back_cell == 0) ≡ true → back_cell ≡ 0
 back_from_test back_page back_cell none passes = grind (arith, nat_tests)
 
@@ -46,7 +46,7 @@ size_from_test greatest size passes = grind (arith, nat_tests)
 test_from_same : (a b : ℕ) → a ≡ b → (a == b) ≡ true
 test_from_same a b same = grind (arith, nat_tests)
 
--- a version that passes the test is within its limits
+-- A version that passes the test is within its limits.
 IsVersion-passed : (greatest : ℕ) (content : Cell) → HasCellNumbers content → is_version greatest content ≡ true → IsVersion content
 IsVersion-passed greatest content small passes =
     let front = both_hold (suits content.flag greatest (length content.value) && not (content.number == 0)) (not (content.back_page == 0) || content.back_cell == 0) passes in
@@ -71,7 +71,7 @@ IsCell-version greatest content small passes =
     let suited = both_hold (suits content.flag greatest (length content.value)) (not (content.number == 0)) front.0 in
     IsContent-suited content.flag greatest content (IsVersion-passed greatest content small passes) suited.0
 
--- a header with one more pointer page keeps its limits
+-- A header with one more pointer page keeps its limits.
 kept_pointed : (shape : Shape) (relation number : ℕ) (header : Header) (entry : Relation) (after : Page) → IsHeader shape.size header → number < number_limit
     → slice_get header.relations relation ≡ Some entry → (b : Bool) → takes_page pointer_limit entry.pointers number ≡ b
     → with_entry relation header (if b then Some (record entry { pointers = entry.pointers ++ number ∷ [] }) else None) ≡ Some after → IsWithinLimits shape after
@@ -87,12 +87,12 @@ kept_entry shape relation number header after is small None there made = cc
 kept_entry shape relation number header after is small (Some entry) there made =
     kept_pointed shape relation number header entry after is small there (takes_page pointer_limit entry.pointers number) refl made
 
--- a page inventory has as many marks, whether it covers itself or not
+-- A page inventory has as many marks, whether it covers itself or not.
 length-own_marks : (n place : ℕ) (b : Bool) → length (if b then set (replicate n false) place true else replicate n false) ≡ n
 length-own_marks n place true = length-set (replicate n false) place true ∙ length-replicate n false
 length-own_marks n place false = length-replicate n false
 
--- a formatted page inventory is within its limits
+-- A formatted page inventory is within its limits.
 IsInventory-formatted : (size number sequence : ℕ) → IsPageSize size → number < number_limit → sequence < number_limit → (not (sequence == 0) || number == 0) ≡ true
     → IsInventory size (record { page = number; sequence = sequence; taken = own_marks size number sequence })
 IsInventory-formatted size number sequence right_size small_number small_sequence fits =
@@ -113,7 +113,7 @@ IsInventory-formatted size number sequence right_size small_number small_sequenc
           subst P start (own_mark (ap (λ k. k / n) none ∙ zero-div n ∙ sym first));
     }
 
--- a formatted transaction inventory page is within its limits
+-- A formatted transaction inventory page is within its limits.
 IsTip-formatted : (size number sequence : ℕ) → IsPageSize size → number < number_limit → sequence < number_limit
     → IsTip size (record { page = number; sequence = sequence; states = replicate (tip_numbers size) Active })
 IsTip-formatted size number sequence right_size small_number small_sequence =
@@ -131,7 +131,7 @@ IsTip-formatted size number sequence right_size small_number small_sequence =
           cc;
     }
 
--- a formatted page is within its limits
+-- A formatted page is within its limits.
 kept_formatted : (shape : Shape) (number relation sequence : ℕ) (after : Page) → IsShape shape → number < number_limit → sequence < number_limit
     → (two three four five : Bool)
     → (if two then inventory_formatted shape.size number sequence else if three then tip_formatted shape.size number sequence
@@ -160,7 +160,7 @@ kept_formatted shape number relation sequence after is small_number small_sequen
     })
 kept_formatted shape number relation sequence after is small_number small_sequence false false false false made = cc
 
--- a pointer page keeps its limits with another number in a slot
+-- A pointer page keeps its limits with another number in a slot.
 IsPointer-slot : (size slot number : ℕ) (pointer : Pointer) → IsPointer size pointer → number < number_limit → IsPointer size (record pointer { slots = set pointer.slots slot number })
 IsPointer-slot size slot number pointer is small = record {
   page_fits = is.page_fits;
@@ -170,7 +170,7 @@ IsPointer-slot size slot number pointer is small = record {
   slots_fit = All-set (λ n. n < number_limit) pointer.slots slot number small is.slots_fit;
 }
 
--- a data page keeps its limits with another cell that is within them
+-- A data page keeps its limits with another cell that is within them.
 IsData-cell : (size greatest cell : ℕ) (content : Cell) (data_page : Data) → IsData size greatest data_page → IsCell greatest content → IsData size greatest (record data_page { cells = set data_page.cells cell content })
 IsData-cell size greatest cell content data_page is right = record {
   page_fits = is.page_fits;
@@ -180,7 +180,7 @@ IsData-cell size greatest cell content data_page is right = record {
   each = All-set (IsCell greatest) data_page.cells cell content right is.each;
 }
 
--- the page after an edit is within its limits
+-- The page after an edit is within its limits.
 pub edits_keep_limits : (shape : Shape) (edit : Edit) (before after : Page) → IsShape shape → IsEdit edit → IsWithinLimits shape before → applied shape edit before ≡ Some after → IsWithinLimits shape after
 edits_keep_limits shape (SetNext next) (page.Header x) after is small within made =
     kept_given shape _ _ after made (λ fits. IsHeader-next shape.size next x within fits)
@@ -221,12 +221,12 @@ edits_keep_limits shape (ClearCell cell) _ after is small within made = cc
 edits_keep_limits shape (Format kind number relation sequence) before after is small within made =
     kept_formatted shape number relation sequence after is small.0 small.1 (kind == 2) (kind == 3) (kind == 4) (kind == 5) made
 
--- an attempt at an edit leaves a page within its limits
+-- An attempt at an edit leaves a page within its limits.
 pub kept_tried : (shape : Shape) (edit : Edit) (old new : Page) (fits : Bool) → IsShape shape → IsEdit edit → IsWithinLimits shape old → Tried fits (applied shape edit old) old new → IsWithinLimits shape new
 kept_tried shape edit old new true is small within made = edits_keep_limits shape edit old new is small within made
 kept_tried shape edit old new false is small within kept = subst (IsWithinLimits shape) (sym kept.1) within
 
--- the same where there may be no memory for the attempt
+-- The same where there may be no memory for the attempt.
 pub kept_result : {E : Type 0} (shape : Shape) (edit : Edit) (old new : Page) (result : Result Bool E) → IsShape shape → IsEdit edit → IsWithinLimits shape old
     → IfOk result (λ fits. Tried fits (applied shape edit old) old new) → OnErr result (new ≡ old) → IsWithinLimits shape new
 kept_result shape edit old new (Ok fits) is small within ok err = kept_tried shape edit old new fits is small within ok

@@ -11,7 +11,7 @@ use Rattle.fbc_kinds.specs.Padding.{padded}
 use Rattle.fbc_kinds.proofs.Numbers.{same_number_2, same_number_4, length-range}
 use Rattle.fbc_kinds.proofs.Pieces.{same_front-range, same_front-pieces, same_front-head}
 
--- where a range of four bytes holds a number, the bytes reach so far
+-- Where a range of four bytes holds a number, the bytes reach so far.
 pub reaches : (from n : ℕ) (bytes : List ℕ) → slice_range bytes from (from + 4) ≡ little_bytes 4 n → from + 4 ≤ length bytes
 reaches from n bytes holds =
     let width : from + 4 - from ≡ 4 = omega arith in
@@ -19,7 +19,7 @@ reaches from n bytes holds =
     let three : length (take (from + 4 - from) (drop from bytes)) ≡ 4 = four in
     omega (arith, length-take (from + 4 - from) (drop from bytes), length-drop from bytes)
 
--- two entries of one relation are equal
+-- Two entries of one relation are equal.
 same_entries-relation : (relation : Relation) (a b : List ℕ) → length a ≡ 36 → length b ≡ 36 → SpellsRelation relation a → SpellsRelation relation b → a ≡ b
 same_entries-relation relation a b la lb x y =
     let one = take_more_same a b 0 0 (omega arith) (omega arith) refl (x.name_length ∙ sym y.name_length) in
@@ -33,7 +33,7 @@ same_entries : (slot : Option Relation) (a b : List ℕ) → length a ≡ 36 →
 same_entries (Some relation) a b la lb x y = same_entries-relation relation a b la lb x y
 same_entries None a b la lb x y = x ∙ sym y
 
--- a header has one spelling
+-- A header has one spelling.
 pub header-one_spelling : (size : ℕ) (header : Header) (a b : List ℕ) → SpellsHeader size header a → SpellsHeader size header b → a ≡ b
 header-one_spelling size header a b x y =
     let la : 400 ≤ length a = reaches 396 _ a (x.tips 15 (omega arith)) in
@@ -57,7 +57,7 @@ header-one_spelling size header a b x y =
     let ends : drop 400 a ≡ drop 400 b = x.rest ∙ sym y.rest in
     sym (take-append-drop 400 a) ∙ (ap (λ (front : List ℕ). front ++ drop 400 a) tips ∙ (ap (λ (rest : List ℕ). take 400 b ++ rest) ends ∙ take-append-drop 400 b))
 
--- page numbers of one count with the same bytes are the same
+-- Page numbers of one count with the same bytes are the same.
 same_page_numbers : (from limit : ℕ) (s t bytes : List ℕ) → length s ≡ length t → length s ≤ limit → ArePageNumbers s → ArePageNumbers t → ((i : ℕ) → i < limit → slice_range bytes (from + 4 * i) (from + 4 * i + 4) ≡ little_bytes 4 (slice_index s i)) → ((i : ℕ) → i < limit → slice_range bytes (from + 4 * i) (from + 4 * i + 4) ≡ little_bytes 4 (slice_index t i)) → s ≡ t
 same_page_numbers from limit s t bytes counts within fits fits' x y = same_lists s t counts (λ i d below.
     let here : i < limit = omega arith in
@@ -66,7 +66,7 @@ same_page_numbers from limit s t bytes counts within fits fits' x y = same_lists
     ∙ (same_number_4 (slice_index s i) (slice_index t i) (fits i below).below (fits' i there).below (sym (x i here) ∙ y i here)
     ∙ get_or_default t i 0 d there))
 
--- no entry spells two relations
+-- No entry spells two relations.
 one_relation : (r s : Relation) (entry : List ℕ) → IsRelation r → IsRelation s → SpellsRelation r entry → SpellsRelation s entry → r ≡ s
 one_relation r s entry fits fits' x y =
     let size : length r.name ≡ length s.name = sym x.name_length ∙ y.name_length in
@@ -81,13 +81,13 @@ one_relation r s entry fits fits' x y =
     let made : List ℕ → ℕ → List ℕ → Relation = λ a b c. record { name = a; length = b; pointers = c } in
     ap (λ (a : List ℕ). made a r.length r.pointers) name ∙ (ap (λ (b : ℕ). made s.name b r.pointers) value ∙ ap (λ (c : List ℕ). made s.name s.length c) pointers)
 
--- the relation of an entry that holds one
+-- The relation of an entry that holds one.
 entry_of : (relations : List Relation) (i : ℕ) (d : Relation) (entry : List ℕ) → i < length relations → SpellsEntry (slice_get relations i) entry → SpellsRelation (get_or relations i d) entry
 entry_of relations i d entry below is =
     let got = slice_get-get_or relations i d below in
     rw got at is
 
--- relations of one count with the same entries are the same
+-- Relations of one count with the same entries are the same.
 same_relations : (s t : List Relation) (bytes : List ℕ) → length s ≡ length t → length s ≤ 8 → ((i : ℕ) (r : Relation) → slice_get s i ≡ Some r → IsRelation r) → ((i : ℕ) (r : Relation) → slice_get t i ≡ Some r → IsRelation r) → ((i : ℕ) → i < 8 → SpellsEntry (slice_get s i) (entry_at bytes i)) → ((i : ℕ) → i < 8 → SpellsEntry (slice_get t i) (entry_at bytes i)) → s ≡ t
 same_relations s t bytes counts within fits fits' x y = same_lists s t counts (λ i d below.
     let here : i < 8 = omega arith in
@@ -96,7 +96,7 @@ same_relations s t bytes counts within fits fits' x y = same_lists s t counts (�
     (fits i (get_or s i d) (slice_get-get_or s i d below)) (fits' i (get_or t i d) (slice_get-get_or t i d there))
     (entry_of s i d (entry_at bytes i) below (x i here)) (entry_of t i d (entry_at bytes i) there (y i here)))
 
--- the next transaction number has four bytes
+-- The next transaction number has four bytes.
 pub next_fits : (size : ℕ) (header : Header) → IsPageSize size → IsHeader size header → header.next < 2 ^ 32
 next_fits size header (inl is) fits = omega (arith, fits.next_to)
 next_fits size header (inr (inl is)) fits = omega (arith, fits.next_to)
@@ -104,7 +104,7 @@ next_fits size header (inr (inr (inl is))) fits = omega (arith, fits.next_to)
 next_fits size header (inr (inr (inr (inl is)))) fits = omega (arith, fits.next_to)
 next_fits size header (inr (inr (inr (inr is)))) fits = omega (arith, fits.next_to)
 
--- no bytes spell two headers
+-- No bytes spell two headers.
 pub header-one_page : (size : ℕ) (s t : Header) (bytes : List ℕ) → IsPageSize size → SpellsHeader size s bytes → SpellsHeader size t bytes → s ≡ t
 header-one_page size s t bytes is x y =
     let page_size : s.size ≡ t.size = x.fits.page_size ∙ sym y.fits.page_size in

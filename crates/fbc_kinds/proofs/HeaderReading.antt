@@ -20,11 +20,11 @@ use Rattle.fbc_kinds.proofs.Tests.{both_fail, same_from_test, differ_from_test}
 use Rattle.fbc_kinds.proofs.Names.{is_name-short}
 use Rattle.fbc_kinds.proofs.HeaderRules.{three_in_order, two_in_order, both_unbroken, within_from, other_branch, number_used, number_unused, RelationsPass, relations_pass}
 
--- what a failed test of an order tells
+-- What a failed test of an order tells.
 not_below : (m n : ℕ) → nat_lt m n ≡ false → n ≤ m
 not_below m n fails = grind (arith, nat_tests)
 
--- what the tests of the counts say where no rule is broken
+-- What the tests of the counts say where no rule is broken.
 pub record CountsPass (size : ℕ) (bytes : List ℕ) : Type 0 where
   pub next_from : 1 ≤ next_in bytes
   pub next_to : next_in bytes ≤ transaction_limit size
@@ -60,14 +60,14 @@ counts_pass size bytes unbroken =
       unused = same_from_test (number_at 42 44 bytes) 0 (true_from_not (number_at 42 44 bytes == 0) four.fourth);
     }
 
--- bytes that pass the comparison are equal
+-- Bytes that pass the comparison are equal.
 same_from_bytes : (a b : List ℕ) → bytes_eq a b ≡ true → a ≡ b
 same_from_bytes a b passes = (bytes_eq-Decides a b).0 passes
 
 differ_from_bytes : (a b : List ℕ) → bytes_eq a b ≡ false → a ≢ b
 differ_from_bytes a b fails same = let passes = (bytes_eq-Decides a b).1 same in cc
 
--- what the marks of a header say where no rule is broken
+-- What the marks of a header say where no rule is broken.
 pub record FrontPasses (size : ℕ) (bytes : List ℕ) : Type 0 where
   pub mark : slice_range bytes 16 24 ≡ codes "FBCPAGES"
   pub page_size : page_size_in bytes ≡ size
@@ -82,7 +82,7 @@ front_passes size bytes unbroken =
       version = same_from_test (version_in bytes) 1 (true_from_not (version_in bytes == 1) three.third);
     }
 
--- the name that an entry spells
+-- The name that an entry spells.
 pub name_in-spelled : (relation : Relation) (entry : List ℕ) → length relation.name ≤ 15 → SpellsRelation relation entry → name_in entry ≡ relation.name
 name_in-spelled relation entry short x =
     let all : length relation.name - 0 ≡ length relation.name = omega arith in
@@ -91,11 +91,11 @@ name_in-spelled relation entry short x =
     ∙ (ap (λ (text : List ℕ). take (length relation.name - 0) text) x.name
     ∙ (ap (λ n. take n (padded name_limit relation.name)) all ∙ take_at relation.name (replicate (15 - length relation.name) 0) (length relation.name) refl)))
 
--- a range of zeros
+-- A range of zeros.
 pub range_zeros : (from to n : ℕ) → to ≤ n → slice_range {X = ℕ} (replicate n 0) from to ≡ replicate (to - from) 0
 range_zeros from to n fits = ap (λ (x : List ℕ). take (to - from) x) (drop-replicate from n 0) ∙ take-replicate (to - from) (n - from) 0 (omega arith)
 
--- an unused entry of a header without a broken rule is zeros
+-- An unused entry of a header without a broken rule is zeros.
 pub unused_entry : (bytes : List ℕ) (i : ℕ) → ((k : ℕ) → get_or bytes k 0 < 256) → 336 ≤ length bytes → RelationsPass bytes → i < 8 → relation_count_in bytes ≤ i → entry_at bytes i ≡ replicate 36 0
 unused_entry bytes i small long pass below past =
     let entry = entry_at bytes i in
@@ -121,13 +121,13 @@ unused_entry bytes i small long pass below past =
     ∙ (ap (little_bytes 4) none ∙ sym (range_zeros (20 + 4 * j) (20 + 4 * j + 4) 36 (omega arith) ∙ ap (λ n. replicate n 0) width))) in
     sym (take_all 36 entry (omega arith)) ∙ all
 
--- a relation does not have the name of an earlier one
+-- A relation does not have the name of an earlier one.
 pub earlier_differs : (bytes : List ℕ) (j i : ℕ) → RelationsPass bytes → j < i → i < relation_count_in bytes → name_in (entry_at bytes j) ≢ name_in (entry_at bytes i)
 earlier_differs bytes j i pass earlier inside =
     let none : repeats_name bytes i ≡ false = any_below-fails (repeats_name bytes) (relation_count_in bytes) pass.repeats i inside in
     differ_from_bytes (name_in (entry_at bytes j)) (name_in (entry_at bytes i)) (any_below-fails (λ k. bytes_eq (name_in (entry_at bytes k)) (name_in (entry_at bytes i))) i none j earlier)
 
--- relations that were read from fair entries have names of their own
+-- Relations that were read from fair entries have names of their own.
 own_names : (bytes : List ℕ) (relations : List Relation) → RelationsPass bytes → length relations ≡ relation_count_in bytes → ((i : ℕ) (r : Relation) → slice_get relations i ≡ Some r → name_in (entry_at bytes i) ≡ r.name) → HaveOwnNames relations
 own_names bytes relations pass count named i j r s at_i at_j same =
     elim (cases_lt i j) [
@@ -138,7 +138,7 @@ own_names bytes relations pass count named i j r s at_i at_j same =
       ]
     ]
 
--- what a header's last tests say where no rule is broken
+-- What a header's last tests say where no rule is broken.
 pub record EndPasses (bytes : List ℕ) : Type 0 where
   pub tips : any_below (has_bad_number (tip_count_in bytes) 336 bytes) 16 ≡ false
   pub oldest : number_at 44 48 bytes ≡ 0
@@ -153,7 +153,7 @@ end_passes bytes unbroken =
       rest = true_from_not (is_zeros (drop 400 bytes)) three.third;
     }
 
--- each entry is spelled, used or not
+-- Each entry is spelled, used or not.
 entry_read : (bytes : List ℕ) (relations : List Relation) → ((k : ℕ) → get_or bytes k 0 < 256) → 336 ≤ length bytes → RelationsPass bytes → length relations ≡ relation_count_in bytes → ((i : ℕ) (r : Relation) → slice_get relations i ≡ Some r → IsRead bytes i r) → (i : ℕ) → i < 8 → SpellsEntry (slice_get relations i) (entry_at bytes i)
 entry_read bytes relations small long pass count read i below =
     elim (slice_get_cases relations i).1 [
@@ -161,7 +161,7 @@ entry_read bytes relations small long pass count read i below =
       | inr missing ↦ rw missing.1 (unused_entry bytes i small long pass below (omega (arith, missing.0, count)))
     ]
 
--- the header that was read from bytes without a broken rule is the one that they spell
+-- The header that was read from bytes without a broken rule is the one that they spell.
 pub SpellsHeader-read : (size : ℕ) (relations : List Relation) (tips bytes : List ℕ) → 400 ≤ size → ((k : ℕ) → get_or bytes k 0 < 256) → length bytes ≡ size → HasHead 1 0 0 0 bytes → broken_front (page_size_in bytes == size) bytes ≡ None → broken_content size bytes ≡ None → length relations ≡ relation_count_in bytes → ((i : ℕ) (r : Relation) → slice_get relations i ≡ Some r → IsRead bytes i r) → length tips ≡ tip_count_in bytes → ((i : ℕ) → i < tip_count_in bytes → slice_index tips i ≡ page_number_in 336 bytes i) → SpellsHeader size (record { size = size; next = next_in bytes; inventories = inventory_count_in bytes; oldest = number_at 44 48 bytes; relations = relations; tips = tips }) bytes
 SpellsHeader-read size relations tips bytes large small long head front content relation_count read tip_count numbers =
     let marks = front_passes size bytes front in
@@ -214,7 +214,7 @@ SpellsHeader-read size relations tips bytes large small long head front content 
       rest = zeros-is_zeros (drop 400 bytes) ends.rest ∙ ap (λ n. replicate n 0) (length-drop 400 bytes ∙ ap (λ n. n - 400) long);
     }
 
--- the parts of a header that breaks no rule
+-- The parts of a header that breaks no rule.
 pub record HeaderPasses (size : ℕ) (bytes : List ℕ) : Type 0 where
   pub head : broken_head 1 0 bytes ≡ None
   pub front : broken_front (page_size_in bytes == size) bytes ≡ None

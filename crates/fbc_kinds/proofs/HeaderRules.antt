@@ -15,7 +15,7 @@ use Rattle.fbc_kinds.proofs.Heads.{both_pass, true_from_not, zeros-is_zeros}
 use Rattle.fbc_kinds.proofs.Numbers.{little_2-number_at, little_4-number_at, number_at-small_4, length-range}
 use Rattle.fbc_kinds.proofs.Tests.{both_fail, at_most, same_from_test, differ_from_test}
 
--- what three tests in order say where no rule is broken
+-- What three tests in order say where no rule is broken.
 pub record ThreeFail (a b c : Bool) : Type 0 where
   pub first : a ≡ false
   pub second : b ≡ false
@@ -32,25 +32,25 @@ two_in_order r s false false unbroken = (refl, refl)
 two_in_order r s false true unbroken = cc
 two_in_order r s true b unbroken = cc
 
--- where nothing is broken, neither part is
+-- Where nothing is broken, neither part is.
 pub both_unbroken : (a b : Option Rule) → or_else a b ≡ None → (a ≡ None) × (b ≡ None)
 both_unbroken None b unbroken = (refl, unbroken)
 both_unbroken (Some r) b unbroken = cc
 
--- a number within its ends
+-- A number within its ends.
 pub within_from : (low high n : ℕ) → is_within low high n ≡ true → (low ≤ n) × (n ≤ high)
 within_from low high n passes =
     let both = both_pass (nat_le low n) (nat_le n high) passes in
     (at_most low n both.0, at_most n high both.1)
 
--- the branch of a test that is taken
+-- The branch of a test that is taken.
 pub taken_branch : (i n : ℕ) (a b : Bool) → i < n → (if nat_lt i n then a else b) ≡ a
 taken_branch i n a b below = let e : nat_lt i n ≡ true = grind (arith, nat_tests) in rw e refl
 
 pub other_branch : (i n : ℕ) (a b : Bool) → n ≤ i → (if nat_lt i n then a else b) ≡ b
 other_branch i n a b above = let e : nat_lt i n ≡ false = grind (arith, nat_tests) in rw e refl
 
--- a used number is not 0, and an unused one is
+-- A used number is not 0, and an unused one is.
 pub number_used : (used from limit : ℕ) (bytes : List ℕ) → any_below (has_bad_number used from bytes) limit ≡ false → (i : ℕ) → i < limit → i < used → page_number_in from bytes i ≢ 0
 number_used used from limit bytes none i below in_use =
     let fails : has_bad_number used from bytes i ≡ false = any_below-fails (has_bad_number used from bytes) limit none i below in
@@ -61,7 +61,7 @@ number_unused used from limit bytes none i below out_of_use =
     let fails : has_bad_number used from bytes i ≡ false = any_below-fails (has_bad_number used from bytes) limit none i below in
     same_from_test (page_number_in from bytes i) 0 (true_from_not (page_number_in from bytes i == 0) (sym (other_branch i used (page_number_in from bytes i == 0) (not (page_number_in from bytes i == 0)) out_of_use) ∙ fails))
 
--- what the tests of the relations say where no rule is broken
+-- What the tests of the relations say where no rule is broken.
 pub record RelationsPass (bytes : List ℕ) : Type 0 where
   pub names : any_below (has_bad_name bytes) 8 ≡ false
   pub repeats : any_below (repeats_name bytes) (relation_count_in bytes) ≡ false
@@ -74,7 +74,7 @@ relations_pass bytes unbroken =
     let names = both_fail (any_below (has_bad_name bytes) relation_limit) (any_below (repeats_name bytes) (relation_count_in bytes)) three.first in
     record { names = names.0; repeats = names.1; values = three.second; pointers = three.third }
 
--- a used entry of a header without a broken rule is fair
+-- A used entry of a header without a broken rule is fair.
 pub IsFairEntry-used : (bytes : List ℕ) (i : ℕ) → 336 ≤ length bytes → RelationsPass bytes → i < 8 → i < relation_count_in bytes → IsFairEntry (entry_at bytes i)
 IsFairEntry-used bytes i long pass below in_use =
     let entry = entry_at bytes i in
@@ -105,7 +105,7 @@ IsFairEntry-used bytes i long pass below in_use =
       unused = λ j inside past. number_unused (pointer_count_in entry) 20 4 entry two.1 j inside past;
     }
 
--- a range in two parts
+-- A range in two parts.
 range_split : (from middle to : ℕ) (bytes : List ℕ) → from ≤ middle → middle ≤ to → slice_range bytes from to ≡ slice_range bytes from middle ++ slice_range bytes middle to
 range_split from middle to bytes low high =
     let whole : to - from ≡ (middle - from) + (to - middle) = omega arith in
@@ -115,11 +115,11 @@ range_split from middle to bytes low high =
     ∙ (ap (λ (x : List ℕ). take (middle - from) (drop from bytes) ++ take (to - middle) x) (drop-drop (middle - from) from bytes)
     ∙ ap (λ n. take (middle - from) (drop from bytes) ++ take (to - middle) (drop n bytes)) place))
 
--- how long the name of a fair entry is
+-- How long the name of a fair entry is.
 pub length-name_in : (entry : List ℕ) → IsFairEntry entry → length (name_in entry) ≡ slice_index entry 0
 length-name_in entry fair = length-range 1 (1 + slice_index entry 0) entry (omega (arith, fair.short, fair.wide)) ∙ omega arith
 
--- the relation that a fair entry spells
+-- The relation that a fair entry spells.
 pub relation_of : List ℕ → List ℕ → Relation
 relation_of entry pointers = record { name = name_in entry; length = value_length_in entry; pointers = pointers }
 

@@ -22,18 +22,18 @@ use Rattle.fbc_kinds.proofs.Numbers.{number_in-little_2, number_in-little_4}
 use Rattle.fbc_kinds.proofs.Pieces.{range_in}
 use Rattle.fbc_kinds.proofs.Tests.{neither, not_of_true, test_of_same, test_of_different, test_of_order}
 
--- a number between its ends passes the test
+-- A number between its ends passes the test.
 within_passes : (low high n : ℕ) → low ≤ n → n ≤ high → is_within low high n ≡ true
 within_passes low high n from to =
     let a = test_of_order low n from in
     let b = test_of_order n high to in
     rw (a, b) refl
 
--- a test of an order that does not hold fails
+-- A test of an order that does not hold fails.
 order_fails : (m n : ℕ) → n ≤ m → nat_lt m n ≡ false
 order_fails m n order = grind (arith, nat_tests)
 
--- equal texts pass the comparison, and others do not
+-- Equal texts pass the comparison, and others do not.
 bytes_pass : (a b : List ℕ) → a ≡ b → bytes_eq a b ≡ true
 bytes_pass a b same = (bytes_eq-Decides a b).1 same
 
@@ -44,7 +44,7 @@ not_passed true fails = absurd (fails refl)
 bytes_fail : (a b : List ℕ) → a ≢ b → bytes_eq a b ≡ false
 bytes_fail a b differ = not_passed (bytes_eq a b) (λ passes. differ ((bytes_eq-Decides a b).0 passes))
 
--- the numbers of a header that is spelled
+-- The numbers of a header that is spelled.
 pub record NumbersAre (header : Header) (bytes : List ℕ) : Type 0 where
   pub page_size : page_size_in bytes ≡ header.size
   pub version : version_in bytes ≡ 1
@@ -74,7 +74,7 @@ numbers_are size header bytes is x = record {
   oldest = ap (number_in 256) x.oldest ∙ (number_in-little_4 header.oldest (omega (arith, x.fits.oldest)) ∙ x.fits.oldest);
 }
 
--- a row of page numbers passes its tests
+-- A row of page numbers passes its tests.
 numbers_pass : (from limit : ℕ) (pages bytes : List ℕ) → ArePageNumbers pages → ((i : ℕ) → i < limit → slice_range bytes (from + 4 * i) (from + 4 * i + 4) ≡ little_bytes 4 (slice_index pages i)) → (used : ℕ) → used ≡ length pages → any_below (has_bad_number used from bytes) limit ≡ false
 numbers_pass from limit pages bytes fits spelled used count = any_below-none (has_bad_number used from bytes) limit (λ i below.
     elim (cases_lt i used) [
@@ -91,7 +91,7 @@ numbers_pass from limit pages bytes fits spelled used count = any_below-none (ha
           ∙ not_of_true (page_number_in from bytes i == 0) (test_of_same (page_number_in from bytes i) 0 is)
     ])
 
--- an entry that spells a relation passes the tests of a used entry
+-- An entry that spells a relation passes the tests of a used entry.
 holds_name-spelled : (relation : Relation) (entry : List ℕ) → IsRelation relation → SpellsRelation relation entry → holds_name entry ≡ true
 holds_name-spelled relation entry fits x =
     let short = is_name-short relation.name fits.name in
@@ -109,7 +109,7 @@ holds_name-spelled relation entry fits x =
     let blank : is_zeros (slice_range entry (1 + slice_index entry 0) 16) ≡ true = ap is_zeros padding ∙ is_zeros-replicate (15 - length relation.name) in
     rw (order, is, blank) refl
 
--- the relation of a used place
+-- The relation of a used place.
 relation_at : (header : Header) (bytes : List ℕ) (i : ℕ) → ((k : ℕ) → k < 8 → SpellsEntry (slice_get header.relations k) (entry_at bytes k)) → i < 8 → i < length header.relations → (r : Relation) × (slice_get header.relations i ≡ Some r) × SpellsRelation r (entry_at bytes i)
 relation_at header bytes i entries below in_use =
     let is = entries i below in
@@ -118,14 +118,14 @@ relation_at header bytes i entries below in_use =
       | inr missing ↦ absurd (omega (arith, missing.0))
     ]
 
--- an unused place is zeros
+-- An unused place is zeros.
 zeros_at : (header : Header) (bytes : List ℕ) (i : ℕ) → ((k : ℕ) → k < 8 → SpellsEntry (slice_get header.relations k) (entry_at bytes k)) → i < 8 → length header.relations ≤ i → entry_at bytes i ≡ replicate 36 0
 zeros_at header bytes i entries below past =
     let none = slice_get_past header.relations i past in
     let is = entries i below in
     rw none at is
 
--- a spelled header's relations pass their tests
+-- A spelled header's relations pass their tests.
 name_passes : (size : ℕ) (header : Header) (bytes : List ℕ) → SpellsHeader size header bytes → relation_count_in bytes ≡ length header.relations → (i : ℕ) → i < 8 → has_bad_name bytes i ≡ false
 name_passes size header bytes x count i below =
     elim (cases_lt i (relation_count_in bytes)) [
@@ -186,7 +186,7 @@ repeats_pass size header bytes x count =
     let one : j ≡ i = x.fits.names j i early.0 late.0 early.1 late.1 (sym early_name ∙ (same ∙ late_name)) in
     absurd (omega arith))))
 
--- the tests of the counts pass
+-- The tests of the counts pass.
 next_passes : (size : ℕ) (header : Header) (bytes : List ℕ) → IsHeader size header → NumbersAre header bytes → has_bad_next size bytes ≡ false
 next_passes size header bytes fits are =
     neither (next_in bytes == 0 || nat_lt (transaction_limit size) (next_in bytes)) (nat_lt (tip_numbers size * tip_count_in bytes) (next_in bytes))
@@ -203,7 +203,7 @@ count_passes size header bytes fits are =
     (not_of_true (is_within 1 tip_limit (tip_count_in bytes)) (within_passes 1 tip_limit (tip_count_in bytes) (omega (arith, are.tip_count, fits.tips_from)) (omega (arith, are.tip_count, fits.tips_to))))
     (not_of_true (number_at 42 44 bytes == 0) (test_of_same (number_at 42 44 bytes) 0 are.unused))
 
--- a spelled header breaks no rule
+-- A spelled header breaks no rule.
 pub SpellsHeader-unbroken : (size : ℕ) (header : Header) (bytes : List ℕ) → IsPageSize size → SpellsHeader size header bytes → broken_header size bytes ≡ None
 SpellsHeader-unbroken size header bytes is x =
     let are = numbers_are size header bytes is x in

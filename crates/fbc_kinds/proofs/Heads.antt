@@ -8,17 +8,17 @@ use Rattle.fbc_kinds.specs.Head.{number_in, broken_head, HasHead, is_zeros, has_
 use Rattle.fbc_kinds.proofs.Tests.{and_fails, fails_under, not_of_true, test_of_same, test_of_order, same_from_test, at_most}
 use Rattle.fbc_kinds.proofs.Numbers.{number_in-little_2, number_in-little_4, little_2-number_at, little_4-number_at, length-range}
 
--- where both of two tests pass, each one passes
+-- Where both of two tests pass, each one passes.
 pub both_pass : (a b : Bool) → (a && b) ≡ true → (a ≡ true) × (b ≡ true)
 both_pass true true passes = (refl, refl)
 both_pass true false passes = cc
 both_pass false _ passes = cc
 
--- what the test of a number against zero tells
+-- What the test of a number against zero tells.
 zero_from_test : (n : ℕ) → (n == 0) ≡ true → n ≡ 0
 zero_from_test n passes = grind (arith, nat_tests)
 
--- bytes that pass the test are zeros
+-- Bytes that pass the test are zeros.
 pub zeros-is_zeros : (bytes : List ℕ) → is_zeros bytes ≡ true → bytes ≡ replicate (length bytes) 0
 zeros-is_zeros [] passes = refl
 zeros-is_zeros (b ∷ bytes) passes =
@@ -27,12 +27,12 @@ zeros-is_zeros (b ∷ bytes) passes =
     let rest = zeros-is_zeros bytes both.1 in
     cc
 
--- zeros pass the test
+-- Zeros pass the test.
 pub is_zeros-replicate : (n : ℕ) → is_zeros (replicate n 0) ≡ true
 is_zeros-replicate zero = refl
 is_zeros-replicate (suc n) = is_zeros-replicate n
 
--- where none of four tests passes, each one fails
+-- Where none of four tests passes, each one fails.
 pub record FourFail (a b c d : Bool) : Type 0 where
   pub first : a ≡ false
   pub second : b ≡ false
@@ -46,12 +46,12 @@ four_fail false false true _ fails = cc
 four_fail false true _ _ fails = cc
 four_fail true _ _ _ fails = cc
 
--- a test whose negation fails passes
+-- A test whose negation fails passes.
 pub true_from_not : (b : Bool) → not b ≡ false → b ≡ true
 true_from_not true fails = refl
 true_from_not false fails = cc
 
--- a head with none of the faults says what stands in its bytes
+-- A head with none of the faults says what stands in its bytes.
 pub HasHead-fair : (kind page : ℕ) (bytes : List ℕ) → ((i : ℕ) → get_or bytes i 0 < 256) → 16 ≤ length bytes → get_or bytes 0 0 ≡ kind → has_bad_head kind bytes ≡ false → page_in bytes ≡ page → HasHead kind (relation_in bytes) page (sequence_in bytes) bytes
 HasHead-fair kind page bytes small long right_kind fair right_page =
     let fails = four_fail (not (slice_index bytes 1 == 1)) (not (is_zeros (slice_range bytes 12 16))) (has_stray_relation kind bytes) (has_stray_sequence kind bytes) fair in
@@ -66,22 +66,22 @@ HasHead-fair kind page bytes small long right_kind fair right_page =
       zeros = zeros-is_zeros (slice_range bytes 12 16) second ∙ ap (λ n. replicate n 0) (length-range 12 16 bytes (omega arith));
     }
 
--- a range of the front is that range of the whole
+-- A range of the front is that range of the whole.
 pub range-take : (n from to : ℕ) (bytes : List ℕ) → to ≤ n → slice_range (take n bytes) from to ≡ slice_range bytes from to
 range-take n from to bytes within =
     between_is (take n bytes) from to ∙ ap (λ (front : List ℕ). drop from front) (take-take to n bytes within) ∙ sym (between_is bytes from to)
 
--- ranges of equal fronts are equal
+-- Ranges of equal fronts are equal.
 pub range-same_front : (n from to : ℕ) (old new : List ℕ) → to ≤ n → take n new ≡ take n old → slice_range new from to ≡ slice_range old from to
 range-same_front n from to old new within same =
     sym (range-take n from to new within) ∙ ap (λ (front : List ℕ). slice_range front from to) same ∙ range-take n from to old within
 
--- items of equal fronts are equal
+-- Items of equal fronts are equal.
 pub item-same_front : (n i : ℕ) (old new : List ℕ) → i < n → take n new ≡ take n old → get_or new i 0 ≡ get_or old i 0
 item-same_front n i old new within same =
     sym (get_or-take n new i 0 within) ∙ ap (λ (front : List ℕ). get_or front i 0) same ∙ get_or-take n old i 0 within
 
--- a head stays where the first 16 bytes stay
+-- A head stays where the first 16 bytes stay.
 pub HasHead-kept : (kind relation page sequence : ℕ) (old new : List ℕ) → take 16 new ≡ take 16 old → HasHead kind relation page sequence old → HasHead kind relation page sequence new
 HasHead-kept kind relation page sequence old new same head = record {
   kind_is = item-same_front 16 0 old new (omega arith) same ∙ head.kind_is;
@@ -92,16 +92,16 @@ HasHead-kept kind relation page sequence old new same head = record {
   zeros = range-same_front 16 12 16 old new (omega arith) same ∙ head.zeros;
 }
 
--- none of four failed tests passes
+-- None of four failed tests passes.
 pub four_none : (a b c d : Bool) → a ≡ false → b ≡ false → c ≡ false → d ≡ false → (a || b || c || d) ≡ false
 four_none a b c d first second third fourth = rw (first, second, third, fourth) refl
 
--- what a head says for certain kinds: no relation below the pointer pages, no sequence for the header
+-- What a head says for certain kinds: no relation below the pointer pages, no sequence for the header.
 pub record IsPlainHead (kind relation sequence : ℕ) : Type 0 where
   pub no_relation : kind ≤ 3 → relation ≡ 0
   pub no_sequence : kind ≡ 1 → sequence ≡ 0
 
--- a head that says what is due breaks no rule
+-- A head that says what is due breaks no rule.
 pub HasHead-unbroken : (kind relation page sequence : ℕ) (bytes : List ℕ) → relation < 2 ^ 16 → page < 2 ^ 32 → sequence < 2 ^ 32 → IsPlainHead kind relation sequence → HasHead kind relation page sequence bytes → broken_head kind page bytes ≡ None
 HasHead-unbroken kind relation page sequence bytes small small' small'' plain head =
     let relation_is : relation_in bytes ≡ relation = ap (number_in 256) head.relation_is ∙ number_in-little_2 relation small in
@@ -118,34 +118,34 @@ HasHead-unbroken kind relation page sequence bytes small small' small'' plain he
     let head_test : has_bad_head kind bytes ≡ false = four_none (not (slice_index bytes 1 == 1)) (not (is_zeros (slice_range bytes 12 16))) (has_stray_relation kind bytes) (has_stray_sequence kind bytes) one_test zeros_test relation_test sequence_test in
     rw (kind_test, head_test, page_test) refl
 
--- a head with none of the faults has a relation only where one is due
+-- A head with none of the faults has a relation only where one is due.
 pub no_stray_relation : (kind : ℕ) (bytes : List ℕ) → has_bad_head kind bytes ≡ false → kind ≤ 3 → relation_in bytes ≡ 0
 no_stray_relation kind bytes fair low =
     let fails = four_fail (not (slice_index bytes 1 == 1)) (not (is_zeros (slice_range bytes 12 16))) (has_stray_relation kind bytes) (has_stray_sequence kind bytes) fair in
     let test = fails_under (nat_le kind 3) (not (relation_in bytes == 0)) fails.third (test_of_order kind 3 low) in
     same_from_test (relation_in bytes) 0 (true_from_not (relation_in bytes == 0) test)
 
--- and a sequence only where one is due
+-- And a sequence only where one is due.
 pub no_stray_sequence : (kind : ℕ) (bytes : List ℕ) → has_bad_head kind bytes ≡ false → kind ≡ 1 → sequence_in bytes ≡ 0
 no_stray_sequence kind bytes fair first =
     let fails = four_fail (not (slice_index bytes 1 == 1)) (not (is_zeros (slice_range bytes 12 16))) (has_stray_relation kind bytes) (has_stray_sequence kind bytes) fair in
     let test = fails_under (kind == 1) (not (sequence_in bytes == 0)) fails.fourth (test_of_same kind 1 first) in
     same_from_test (sequence_in bytes) 0 (true_from_not (sequence_in bytes == 0) test)
 
--- what the tests of a head say where no rule is broken
+-- What the tests of a head say where no rule is broken.
 head_pass : (a b c : Bool) → (if not a then Some rule.Kind else if b then Some rule.Head else if not c then Some rule.Number else None) ≡ None → (a ≡ true) × (b ≡ false) × (c ≡ true)
 head_pass true false true unbroken = (refl, refl, refl)
 head_pass true false false unbroken = cc
 head_pass true true c unbroken = cc
 head_pass false b c unbroken = cc
 
--- a head that breaks no rule says what stands in its bytes
+-- A head that breaks no rule says what stands in its bytes.
 pub HasHead-from_unbroken : (kind page : ℕ) (bytes : List ℕ) → ((i : ℕ) → get_or bytes i 0 < 256) → 16 ≤ length bytes → broken_head kind page bytes ≡ None → HasHead kind (relation_in bytes) page (sequence_in bytes) bytes
 HasHead-from_unbroken kind page bytes small long unbroken =
     let pass = head_pass (slice_index bytes 0 == kind) (has_bad_head kind bytes) (page_in bytes == page) unbroken in
     HasHead-fair kind page bytes small long (same_from_test (slice_index bytes 0) kind pass.0) pass.1 (same_from_test (page_in bytes) page pass.2)
 
--- the head of a header that breaks no rule
+-- The head of a header that breaks no rule.
 pub header_head : (bytes : List ℕ) → ((i : ℕ) → get_or bytes i 0 < 256) → 16 ≤ length bytes → broken_head 1 0 bytes ≡ None → HasHead 1 0 0 0 bytes
 header_head bytes small long unbroken =
     let pass = head_pass (slice_index bytes 0 == 1) (has_bad_head 1 bytes) (page_in bytes == 0) unbroken in

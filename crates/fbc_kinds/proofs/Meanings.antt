@@ -11,7 +11,7 @@ use Rattle.fbc_kinds.specs.Chain.{Version, chain}
 use Rattle.fbc_kinds.specs.Machine.{Made, numbered, is_rolled_back, standing_versions}
 use Rattle.fbc_kinds.specs.Meaning.{settled, transaction_of, transactions_up_to, made_of, meaning_with}
 
--- an element at the end of a list stands behind the others
+-- An element at the end of a list stands behind the others.
 before_last : {X : Type 0} (xs : List X) (x : X) (k : ℕ) → k < length xs → slice_get (xs ++ x ∷ []) k ≡ slice_get xs k
 before_last [] x k lt = absurd (omega arith)
 before_last (y ∷ ys) x zero lt = refl
@@ -26,7 +26,7 @@ module _ (view : View) (living : List Transaction) where
   found number [] = refl
   found number (t ∷ ts) = grind (arith, nat_tests, found number ts)
 
-  -- the transaction of a number has that number
+  -- The transaction of a number has that number.
   pub number_of-transaction_of : (number : ℕ) → (transaction_of view living number).number ≡ number
   number_of-transaction_of number = found number living
 
@@ -44,12 +44,12 @@ module _ (view : View) (living : List Transaction) where
       let same : place ≡ count = grind (arith, nat_tests) in
       ap (slice_get (transactions_up_to view living count ++ transaction_of view living (suc count) ∷ [])) here ∙ at_last (transactions_up_to view living count) (transaction_of view living (suc count)) ∙ ap (λ n. Some (transaction_of view living (suc n))) (sym same)
 
-  -- a number's transaction stands at the place before that number
+  -- A number's transaction stands at the place before that number.
   pub transaction_at : (count place : ℕ) → place < count → slice_get (transactions_up_to view living count) place ≡ Some (transaction_of view living (suc place))
   transaction_at zero place lt = absurd (omega arith)
   transaction_at (suc count) place lt = placed count place lt (transaction_at count place) (nat_lt place count) refl
 
-  -- whether a version's transaction is not rolled back
+  -- Whether a version's transaction is not rolled back.
   abbrev pub is_standing : Version → Bool
   is_standing version = not (is_rolled_back (transaction_of view living version.number).standing)
 
@@ -71,7 +71,7 @@ module _ (view : View) (living : List Transaction) where
   in_front version true older = refl
   in_front version false older = refl
 
-  -- the versions whose transactions are not rolled back
+  -- The versions whose transactions are not rolled back.
   standing_made : (versions : List Version) → All (λ (v : Version). (0 < v.number) × (v.number ≤ next_of view)) versions → filter_map (λ (v : Made). option_and_then (numbered v.value) (slice_get (transactions_up_to view living (next_of view)) v.maker)) (map made_of versions) ≡ filter is_standing versions
   standing_made [] all = refl
   standing_made (version ∷ older) all =
@@ -80,6 +80,6 @@ module _ (view : View) (living : List Transaction) where
       ∙ in_front version (is_standing version) (filter_map (λ (v : Made). option_and_then (numbered v.value) (slice_get (transactions_up_to view living (next_of view)) v.maker)) (map made_of older))
       ∙ ap (λ rest. if is_standing version then version ∷ rest else rest) (standing_made older (λ k d lt. all (suc k) d (grind (arith, common_steps))))
 
-  -- where a row's numbers are the view's, its standing versions in the meaning are those of its chain that are not rolled back
+  -- Where a row's numbers are the view's, its standing versions in the meaning are those of its chain that are not rolled back.
   pub standing_versions-meaning_with : (relation row : ℕ) → All (λ (v : Version). (0 < v.number) × (v.number ≤ next_of view)) (chain view relation row) → standing_versions (meaning_with living view) relation row ≡ filter is_standing (chain view relation row)
   standing_versions-meaning_with relation row all = standing_made (chain view relation row) all

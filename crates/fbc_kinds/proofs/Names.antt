@@ -6,7 +6,7 @@ use Rattle.fbc_kinds.specs.HeaderSpelling.{is_name, is_letter, is_name_byte}
 use Rattle.fbc_kinds.proofs.Heads.{both_pass}
 use Rattle.fbc_kinds.proofs.Tests.{at_most}
 
--- a name has at most 15 bytes
+-- A name has at most 15 bytes.
 pub is_name-short : (text : List ℕ) → is_name text ≡ true → length text ≤ 15
 is_name-short text is =
     let letters = both_pass (nat_le 1 (length text) && nat_le (length text) name_limit && is_letter (slice_index text 0)) (list_all is_name_byte text) is in

@@ -7,7 +7,7 @@ use Rattle.fbc_kinds.specs.declared.pages.Page.TheVariants as kind
 use Rattle.fbc_kinds.specs.View.{View}
 use Rattle.fbc_kinds.specs.Reach.{Role, HeaderRole, InventoryRole, TipRole, PointerRole, DataRole, Reaches, has_role, shows_role}
 
--- the role that a page gives itself
+-- The role that a page gives itself.
 abbrev pub role_of : Page → Role
 role_of (kind.Header h) = HeaderRole
 role_of (kind.Inventory i) = InventoryRole i.sequence
@@ -23,6 +23,6 @@ pub shows_one_role : (role other : Role) (number : ℕ) (page : Option Page) →
 shows_one_role role other number None is also = cc
 shows_one_role role other number (Some page) is also = has_role-role_of role number page is ∙ sym (has_role-role_of other number page also)
 
--- every page that is reached is reached once
+-- Every page that is reached is reached once.
 pub reached_once : (view : View) → ((role : Role) (page : ℕ) → Reaches view role page → shows_role role page (view page) ≡ true) → (role other : Role) (page : ℕ) → Reaches view role page → Reaches view other page → role ≡ other
 reached_once view fitting role other page here there = shows_one_role role other page (view page) (fitting role page here) (fitting other page there)

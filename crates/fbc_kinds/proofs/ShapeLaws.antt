@@ -13,11 +13,11 @@ use Rattle.fbc_kinds.proofs.HeaderUnbroken.{numbers_are}
 use Rattle.fbc_kinds.proofs.Names.{is_name-short}
 use Rattle.fbc_kinds.proofs.Numbers.{number_in-little_2}
 
--- the relation that a place holds spells its entry
+-- The relation that a place holds spells its entry.
 entry_spelled : (relations : List Relation) (i : ℕ) (r : Relation) (entry : List ℕ) → slice_get relations i ≡ Some r → SpellsEntry (slice_get relations i) entry → SpellsRelation r entry
 entry_spelled relations i r entry at is = rw at at is
 
--- the shape that the first bytes of a spelled header show is the header's
+-- The shape that the first bytes of a spelled header show is the header's.
 pub HasShape-shown : (size reach : ℕ) (header : Header) (shape : Shape) (bytes : List ℕ) → IsPageSize size → SpellsHeader size header bytes → ShowsShape (take 1024 bytes) reach shape → HasShape shape header
 HasShape-shown size reach header shape bytes is x shows =
     let are = numbers_are size header bytes is x in

@@ -6,12 +6,12 @@ use Rattle.fbc_kinds.specs.declared.rules.Rule.TheVariants as rule
 use Rattle.fbc_kinds.specs.declared.shapes.Shape.{Shape}
 use Rattle.fbc_kinds.specs.Head.{or_else, broken_head}
 use Rattle.fbc_kinds.specs.Limits.{IsPageSize, is_page_size}
-use Rattle.fbc_kinds.specs.HeaderSpelling.{IsShape, ShowsShape, entry_at, name_in, value_length_in, page_size_in, relation_count_in, broken_counts, broken_relations, broken_end, broken_content, broken_front, broken_length, broken_beginning, broken_file, as_recognised, has_mark, version_in}
+use Rattle.fbc_kinds.specs.HeaderSpelling.{IsFileShape, ShowsShape, entry_at, name_in, value_length_in, page_size_in, relation_count_in, broken_counts, broken_relations, broken_end, broken_content, broken_front, broken_length, broken_beginning, broken_file, as_recognised, has_mark, version_in}
 use Rattle.fbc_kinds.proofs.HeaderRules.{both_unbroken, RelationsPass, relations_pass, IsFairEntry-used, length-name_in}
 use Rattle.fbc_kinds.proofs.HeaderReading.{CountsPass, counts_pass, unused_entry, earlier_differs}
 use Rattle.fbc_kinds.proofs.Tests.{same_from_test}
 
--- the content of a header that breaks no rule
+-- The content of a header that breaks no rule.
 pub record ContentPasses (size : ℕ) (first : List ℕ) : Type 0 where
   pub counts : CountsPass size first
   pub relations : RelationsPass first
@@ -22,14 +22,14 @@ content_passes size first unbroken =
     let later = both_unbroken (broken_relations first) (broken_end first) parts.1 in
     record { counts = counts_pass size first parts.0; relations = relations_pass first later.0 }
 
--- the name and the value length of an unused entry
+-- The name and the value length of an unused entry.
 pub unused_name : (first : List ℕ) (i : ℕ) → ((k : ℕ) → get_or first k 0 < 256) → 336 ≤ length first → RelationsPass first → i < 8 → relation_count_in first ≤ i → name_in (entry_at first i) ≡ []
 unused_name first i small long pass below past = ap name_in (unused_entry first i small long pass below past)
 
 pub unused_value : (first : List ℕ) (i : ℕ) → ((k : ℕ) → get_or first k 0 < 256) → 336 ≤ length first → RelationsPass first → i < 8 → relation_count_in first ≤ i → value_length_in (entry_at first i) ≡ 0
 unused_value first i small long pass below past = ap value_length_in (unused_entry first i small long pass below past)
 
--- each entry's name and value length are short
+-- Each entry's name and value length are short.
 pub name_is_short : (first : List ℕ) (i : ℕ) → ((k : ℕ) → get_or first k 0 < 256) → 336 ≤ length first → RelationsPass first → i < 8 → length (name_in (entry_at first i)) ≤ 15
 name_is_short first i small long pass below =
     elim (cases_lt i (relation_count_in first)) [
@@ -44,11 +44,11 @@ value_is_short first i small long pass below =
       | inr past ↦ omega (arith, unused_value first i small long pass below past)
     ]
 
--- two things that one place holds are one
+-- Two things that one place holds are one.
 same_some : {X : Type 0} (place : Option X) (a b : X) → place ≡ Some a → place ≡ Some b → a ≡ b
 same_some place a b x y = let e : Some a ≡ Some b = sym x ∙ y in cc
 
--- relations of one name are one
+-- Relations of one name are one.
 one_name : (first : List ℕ) (i j : ℕ) → RelationsPass first → i < relation_count_in first → j < relation_count_in first → name_in (entry_at first i) ≡ name_in (entry_at first j) → i ≡ j
 one_name first i j pass below below' same =
     elim (cases_lt i j) [
@@ -59,9 +59,9 @@ one_name first i j pass below below' same =
       ]
     ]
 
--- the shape that bytes without a broken rule show is within its limits
-pub IsShape-shown : (reach : ℕ) (first : List ℕ) (shape : Shape) → ((k : ℕ) → get_or first k 0 < 256) → 336 ≤ length first → IsPageSize (page_size_in first) → broken_content (page_size_in first) first ≡ None → ShowsShape first reach shape → IsShape shape
-IsShape-shown reach first shape small long sized unbroken shows =
+-- The shape that bytes without a broken rule show is within its limits.
+pub IsFileShape-shown : (reach : ℕ) (first : List ℕ) (shape : Shape) → ((k : ℕ) → get_or first k 0 < 256) → 336 ≤ length first → IsPageSize (page_size_in first) → broken_content (page_size_in first) first ≡ None → ShowsShape first reach shape → IsFileShape shape
+IsFileShape-shown reach first shape small long sized unbroken shows =
     let pass = content_passes (page_size_in first) first unbroken in
     let relations = pass.relations in
     let few : relation_count_in first ≤ 8 = pass.counts.relations_to in
@@ -93,7 +93,7 @@ IsShape-shown reach first shape small long sized unbroken shows =
       limit = rw (shows.limit, shows.size) (omega arith);
     }
 
--- the test of the five sizes
+-- The test of the five sizes.
 five : (a b c d e : Bool) (size : ℕ) → (a || b || c || d || e) ≡ true → (a ≡ true → size ≡ 1024) → (b ≡ true → size ≡ 2048) → (c ≡ true → size ≡ 4096) → (d ≡ true → size ≡ 8192) → (e ≡ true → size ≡ 16384) → IsPageSize size
 five true b c d e size passes f g h i j = inl (f refl)
 five false true c d e size passes f g h i j = inr (inl (g refl))
@@ -102,23 +102,23 @@ five false false false true e size passes f g h i j = inr (inr (inr (inl (i refl
 five false false false false true size passes f g h i j = inr (inr (inr (inr (j refl))))
 five false false false false false size passes f g h i j = cc
 
--- a size that passes the test is one of the five
+-- A size that passes the test is one of the five.
 pub sized_from_test : (size : ℕ) → is_page_size size ≡ true → IsPageSize size
 sized_from_test size passes =
     five (size == 1024) (size == 2048) (size == 4096) (size == 8192) (size == 16384) size passes
     (λ e. same_from_test size 1024 e) (λ e. same_from_test size 2048 e) (λ e. same_from_test size 4096 e) (λ e. same_from_test size 8192 e) (λ e. same_from_test size 16384 e)
 
--- what the tests of a header's first part say where no rule is broken
+-- What the tests of a header's first part say where no rule is broken.
 front_pass : (a b c : Bool) → (if not a then Some rule.Magic else if not b then Some rule.Size else if not c then Some rule.Version else None) ≡ None → b ≡ true
 front_pass true true c unbroken = refl
 front_pass true false c unbroken = cc
 front_pass false b c unbroken = cc
 
--- the size of a header whose first part breaks no rule
+-- The size of a header whose first part breaks no rule.
 pub sized_from_front : (right_size : Bool) (bytes : List ℕ) → broken_front right_size bytes ≡ None → right_size ≡ true
 sized_from_front right_size bytes unbroken = front_pass (has_mark bytes) right_size (version_in bytes == 1) unbroken
 
--- what the first bytes of a file say where no rule is broken
+-- What the first bytes of a file say where no rule is broken.
 pub record StartPasses (first : List ℕ) : Type 0 where
   pub size : IsPageSize (page_size_in first)
   pub content : broken_content (page_size_in first) first ≡ None
@@ -133,6 +133,6 @@ start_passes first bytes unbroken =
       content = three.1;
     }
 
--- a file that is not short breaks the rules of its first bytes
+-- A file that is not short breaks the rules of its first bytes.
 pub broken_file-long : (first : List ℕ) (bytes : ℕ) → 1024 ≤ bytes → broken_file first bytes ≡ broken_beginning first bytes
 broken_file-long first bytes long = let e : nat_lt bytes 1024 ≡ false = grind (arith, nat_tests) in rw e refl

@@ -1,7 +1,7 @@
 use Rattle.std.proofs.Common.{◌<◌, ℕ, inl, inr, arith}
 use Rattle.fbc_kinds.specs.Limits.{IsPageSize}
 
--- a page is larger than its head
+-- A page is larger than its head.
 pub has_content : (size : ℕ) → IsPageSize size → 16 < size
 has_content size (inl is) = omega arith
 has_content size (inr (inl is)) = omega arith

@@ -3,28 +3,28 @@ use Rattle.std.specs.Prelude.{nat_le}
 use Rattle.std.specs.List.{list_any}
 use Rattle.std.proofs.lemmas.Bool.Decides.{nat_tests}
 
--- where neither of two tests passes, each one fails
+-- Where neither of two tests passes, each one fails.
 pub both_fail : (a b : Bool) → (a || b) ≡ false → (a ≡ false) × (b ≡ false)
 both_fail false false fails = (refl, refl)
 both_fail false true fails = cc
 both_fail true _ fails = cc
 
--- where each of two tests fails, neither passes
+-- Where each of two tests fails, neither passes.
 pub neither : (a b : Bool) → a ≡ false → b ≡ false → (a || b) ≡ false
 neither a b left right = rw (left, right) refl
 
--- where no item passes, each one fails
+-- Where no item passes, each one fails.
 pub list_any-fails : (test : ℕ → Bool) (xs : List ℕ) → list_any test xs ≡ false → (i : ℕ) → i < length xs → test (get_or xs i 0) ≡ false
 list_any-fails test [] none i below = absurd (omega arith)
 list_any-fails test (x ∷ xs) none zero below = (both_fail (test x) (list_any test xs) none).0
 list_any-fails test (x ∷ xs) none (suc i) below = list_any-fails test xs (both_fail (test x) (list_any test xs) none).1 i (omega arith)
 
--- where each item fails, none passes
+-- Where each item fails, none passes.
 pub list_any-none : (test : ℕ → Bool) (xs : List ℕ) → ((i : ℕ) → i < length xs → test (get_or xs i 0) ≡ false) → list_any test xs ≡ false
 list_any-none test [] each = refl
 list_any-none test (x ∷ xs) each = neither (test x) (list_any test xs) (each 0 (omega arith)) (list_any-none test xs (λ i below. each (suc i) (omega arith)))
 
--- what a test of two numbers tells
+-- What a test of two numbers tells.
 pub same_from_test : (m n : ℕ) → (m == n) ≡ true → m ≡ n
 same_from_test m n passes = grind (arith, nat_tests)
 
@@ -37,7 +37,7 @@ test_of_same m n same = grind (arith, nat_tests)
 pub test_of_different : (m n : ℕ) → m ≢ n → (m == n) ≡ false
 test_of_different m n differ = grind (arith, nat_tests)
 
--- a test under a condition that does not hold, or that fails, fails
+-- A test under a condition that does not hold, or that fails, fails.
 pub and_fails_left : (a b : Bool) → a ≡ false → (a && b) ≡ false
 and_fails_left a b fails = rw fails refl
 
@@ -45,7 +45,7 @@ pub and_fails_right : (a b : Bool) → b ≡ false → (a && b) ≡ false
 and_fails_right true b fails = fails
 and_fails_right false b fails = refl
 
--- a failed test under a condition that holds
+-- A failed test under a condition that holds.
 pub fails_under : (a b : Bool) → (a && b) ≡ false → a ≡ true → b ≡ false
 fails_under true b fails holds = fails
 fails_under false b fails holds = cc
@@ -57,12 +57,12 @@ false_from_not true passes = cc
 pub not_of_true : (b : Bool) → b ≡ true → not b ≡ false
 not_of_true b is = rw is refl
 
--- a test that fails wherever its condition holds
+-- A test that fails wherever its condition holds.
 pub and_fails : (a b : Bool) → (a ≡ true → b ≡ false) → (a && b) ≡ false
 and_fails true b fails = fails refl
 and_fails false b fails = refl
 
--- what the test of an order tells
+-- What the test of an order tells.
 pub at_most : (m n : ℕ) → nat_le m n ≡ true → m ≤ n
 at_most m n passes = grind (arith, nat_tests)
 

@@ -7,13 +7,13 @@ use Rattle.fbc_kinds.specs.declared.pages.State.{State}
 use Rattle.fbc_kinds.specs.declared.pages.State.TheVariants.{Active, Limbo}
 use Rattle.fbc_kinds.specs.declared.pages.Tip.{Tip}
 use Rattle.fbc_kinds.specs.Head.{HasHead, number_in, sequence_in}
-use Rattle.fbc_kinds.specs.TipSpelling.{SpellsTip, state_code, state_of, code_at, states_byte, has_bad_zero, has_bad_state, byte_has_limbo, broken_states, broken_tip}
+use Rattle.fbc_kinds.specs.TipSpelling.{SpellsTip, state_code, state_of_code, code_at, states_byte, has_bad_zero, has_bad_state, byte_has_limbo, broken_states, broken_tip}
 use Rattle.fbc_kinds.proofs.Heads.{true_from_not, IsPlainHead, HasHead-unbroken}
 use Rattle.fbc_kinds.proofs.Numbers.{number_in-little_4}
 use Rattle.fbc_kinds.proofs.Tests.{both_fail, neither, list_any-fails, list_any-none, same_from_test, differ_from_test, test_of_same, test_of_different, fails_under, not_of_true, and_fails}
-use Rattle.fbc_kinds.proofs.TipLaws.{state_code-small, state_of-state_code}
+use Rattle.fbc_kinds.proofs.TipLaws.{state_code-small, state_of_code-state_code}
 
--- the code at a place is that digit of its byte
+-- The code at a place is that digit of its byte.
 pub record FourDigits (byte a b c d : ℕ) : Type 0 where
   pub first : byte % 4 ≡ a
   pub second : byte / 4 % 4 ≡ b
@@ -26,7 +26,7 @@ four_digits byte a b c d ha hb hc hd is = record { first = omega arith; second =
 pub digits_at : (states : List State) (k byte : ℕ) → byte ≡ states_byte states k → FourDigits byte (code_at states (4 * k + 0)) (code_at states (4 * k + 1)) (code_at states (4 * k + 2)) (code_at states (4 * k + 3))
 digits_at states k byte is = four_digits byte _ _ _ _ (state_code-small _) (state_code-small _) (state_code-small _) (state_code-small _) is
 
--- the tests of one byte, by its codes
+-- The tests of one byte, by its codes.
 pub record NoneIsOne (a b c d : ℕ) : Type 0 where
   pub first : (a == 1) ≡ false
   pub second : (b == 1) ≡ false
@@ -40,7 +40,7 @@ none_is_one byte fails =
     let one = both_fail (byte % 4 == 1) (byte / 4 % 4 == 1) two.0 in
     record { first = one.0; second = one.1; third = two.1; fourth = three.1 }
 
--- a byte without the forbidden state has it at none of its places
+-- A byte without the forbidden state has it at none of its places.
 code-not_one : (states : List State) (k r byte : ℕ) → byte ≡ states_byte states k → byte_has_limbo byte ≡ false → r < 4 → code_at states (4 * k + r) ≢ 1
 code-not_one states k zero byte is fails below = let d = (digits_at states k byte is).first in let n = differ_from_test (byte % 4) 1 (none_is_one byte fails).first in omega arith
 code-not_one states k (suc zero) byte is fails below = let d = (digits_at states k byte is).second in let n = differ_from_test (byte / 4 % 4) 1 (none_is_one byte fails).second in omega arith
@@ -48,23 +48,23 @@ code-not_one states k (suc (suc zero)) byte is fails below = let d = (digits_at 
 code-not_one states k (suc (suc (suc zero))) byte is fails below = let d = (digits_at states k byte is).fourth in let n = differ_from_test (byte / 64 % 4) 1 (none_is_one byte fails).fourth in omega arith
 code-not_one states k (suc (suc (suc (suc r)))) byte is fails below = absurd (omega arith)
 
--- a place and its byte
+-- A place and its byte.
 byte_at_place : (n k : ℕ) (bytes : List ℕ) → length bytes ≡ 16 + n → k < n → (k < length (drop 16 bytes)) × (get_or (drop 16 bytes) k 0 ≡ get_or bytes (16 + k) 0)
 byte_at_place n k bytes long below = (omega (arith, length-drop 16 bytes), get_or-drop 16 bytes k 0)
 
--- a code of 1 is the forbidden state
+-- A code of 1 is the forbidden state.
 limbo_from_code : (states : List State) (i : ℕ) → i < length states → code_at states i ≡ 1 → slice_get states i ≡ Some Limbo
 limbo_from_code states i below code =
-    let state : slice_index_or states i Active ≡ Limbo = sym (state_of-state_code (slice_index_or states i Active)) ∙ ap state_of code in
+    let state : slice_index_or states i Active ≡ Limbo = sym (state_of_code-state_code (slice_index_or states i Active)) ∙ ap state_of_code code in
     slice_get-get_or states i Active below ∙ ap Some state
 
--- a code of 0 is the first state
+-- A code of 0 is the first state.
 active_from_code : (states : List State) (i : ℕ) → i < length states → code_at states i ≡ 0 → slice_get states i ≡ Some Active
 active_from_code states i below code =
-    let state : slice_index_or states i Active ≡ Active = sym (state_of-state_code (slice_index_or states i Active)) ∙ ap state_of code in
+    let state : slice_index_or states i Active ≡ Active = sym (state_of_code-state_code (slice_index_or states i Active)) ∙ ap state_of_code code in
     slice_get-get_or states i Active below ∙ ap Some state
 
--- bytes that pass the tests spell a number 0 without a state
+-- Bytes that pass the tests spell a number 0 without a state.
 pub zero_within : (n : ℕ) (states : List State) (bytes : List ℕ) → 0 < n → length states ≡ 4 * n → ((k : ℕ) → k < n → get_or bytes (16 + k) 0 ≡ states_byte states k) → has_bad_zero bytes ≡ false → sequence_in bytes ≡ 0 → slice_get states 0 ≡ Some Active
 zero_within n states bytes some count spelled passes first =
     let test = fails_under (sequence_in bytes == 0) (not (slice_index bytes 16 % 4 == 0)) passes (test_of_same (sequence_in bytes) 0 first) in
@@ -72,7 +72,7 @@ zero_within n states bytes some count spelled passes first =
     let code : slice_index bytes 16 % 4 ≡ code_at states 0 = (digits_at states 0 (slice_index bytes 16) (spelled 0 some)).first in
     active_from_code states 0 (omega arith) (sym code ∙ low)
 
--- bytes that pass the tests spell no forbidden state
+-- Bytes that pass the tests spell no forbidden state.
 pub states_within : (n : ℕ) (states : List State) (bytes : List ℕ) → length bytes ≡ 16 + n → length states ≡ 4 * n → ((k : ℕ) → k < n → get_or bytes (16 + k) 0 ≡ states_byte states k) → has_bad_state bytes ≡ false → (i : ℕ) → slice_get states i ≢ Some Limbo
 states_within n states bytes long count spelled passes i is =
     let below = slice_get_within states i Limbo is in
@@ -83,21 +83,21 @@ states_within n states bytes long count spelled passes i is =
     let fails : byte_has_limbo (get_or bytes (16 + i / 4) 0) ≡ false = sym (ap byte_has_limbo byte.1) ∙ list_any-fails byte_has_limbo (drop 16 bytes) passes (i / 4) byte.0 in
     code-not_one states (i / 4) (i % 4) (get_or bytes (16 + i / 4) 0) (spelled (i / 4) (omega arith)) fails (omega arith) digit
 
--- what two tests in order say where no rule is broken
+-- What two tests in order say where no rule is broken.
 tests_pass : (a b : Bool) → (if a then Some rule.Zero else if b then Some rule.State else None) ≡ None → (a ≡ false) × (b ≡ false)
 tests_pass false false unbroken = (refl, refl)
 tests_pass false true unbroken = cc
 tests_pass true b unbroken = cc
 
--- what the tests say of bytes without a broken rule
+-- What the tests say of bytes without a broken rule.
 pub states_pass : (bytes : List ℕ) → broken_states bytes ≡ None → (has_bad_zero bytes ≡ false) × (has_bad_state bytes ≡ false)
 states_pass bytes unbroken = tests_pass (has_bad_zero bytes) (has_bad_state bytes) unbroken
 
--- a code that is not the forbidden one
+-- A code that is not the forbidden one.
 code-other : (states : List State) (i : ℕ) → i < length states → slice_get states i ≢ Some Limbo → (code_at states i == 1) ≡ false
 code-other states i below other = test_of_different (code_at states i) 1 (λ is. other (limbo_from_code states i below is))
 
--- a byte whose four codes are not the forbidden one passes
+-- A byte whose four codes are not the forbidden one passes.
 limbo_passes : (states : List State) (k byte : ℕ) → byte ≡ states_byte states k → (code_at states (4 * k + 0) == 1) ≡ false → (code_at states (4 * k + 1) == 1) ≡ false → (code_at states (4 * k + 2) == 1) ≡ false → (code_at states (4 * k + 3) == 1) ≡ false → byte_has_limbo byte ≡ false
 limbo_passes states k byte is a b c d =
     let digits = digits_at states k byte is in
@@ -108,7 +108,7 @@ limbo_passes states k byte is a b c d =
     neither (byte % 4 == 1 || byte / 4 % 4 == 1 || byte / 16 % 4 == 1) (byte / 64 % 4 == 1)
     (neither (byte % 4 == 1 || byte / 4 % 4 == 1) (byte / 16 % 4 == 1) (neither (byte % 4 == 1) (byte / 4 % 4 == 1) one two) three) four
 
--- a spelled transaction inventory page breaks no rule of its states
+-- A spelled transaction inventory page breaks no rule of its states.
 pub SpellsTip-unbroken : (size : ℕ) (tip : Tip) (bytes : List ℕ) → 16 < size → SpellsTip size tip bytes → broken_states bytes ≡ None
 SpellsTip-unbroken size tip bytes large x =
     let named : sequence_in bytes ≡ tip.sequence = ap (number_in 256) x.head.sequence_is ∙ number_in-little_4 tip.sequence x.fits.sequence in
@@ -129,7 +129,7 @@ SpellsTip-unbroken size tip bytes large x =
     (code-other tip.states (4 * k + 3) (omega arith) (x.fits.state (4 * k + 3)))) in
     rw (zero_passes, state_passes) refl
 
--- the page that was read from bytes without a broken rule is the one that they spell
+-- The page that was read from bytes without a broken rule is the one that they spell.
 pub SpellsTip-read : (size page sequence : ℕ) (states : List State) (bytes : List ℕ) → 16 < size → length bytes ≡ size → page < 2 ^ 32 → sequence < 2 ^ 32 → sequence ≡ sequence_in bytes → HasHead 3 0 page sequence bytes → length states ≡ 4 * (length bytes - 16) → ((k : ℕ) → k < length bytes - 16 → slice_index bytes (16 + k) ≡ states_byte states k) → broken_states bytes ≡ None → SpellsTip size (record { page = page; sequence = sequence; states = states }) bytes
 SpellsTip-read size page sequence states bytes large long page_fits sequence_fits named head count spelled unbroken =
     let passes = states_pass bytes unbroken in
@@ -147,7 +147,7 @@ SpellsTip-read size page sequence states bytes large long page_fits sequence_fit
       states = λ k below. spelled k (omega arith);
     }
 
--- a spelled transaction inventory page breaks no rule
+-- A spelled transaction inventory page breaks no rule.
 pub tip-unbroken : (size : ℕ) (tip : Tip) (bytes : List ℕ) → 16 < size → SpellsTip size tip bytes → broken_tip tip.page bytes ≡ None
 tip-unbroken size tip bytes large x =
     let plain : IsPlainHead 3 0 tip.sequence = record { no_relation = λ low. refl; no_sequence = λ first. absurd (omega arith) } in

@@ -5,7 +5,7 @@ use Rattle.std.proofs.lemmas.List.{drop-replicate}
 use Rattle.std.proofs.lemmas.Grind.{common_steps}
 use Rattle.fbc_kinds.specs.Padding.{IsPadded}
 
--- a text written over the front of zeros is padded
+-- A text written over the front of zeros is padded.
 pub IsPadded-written : (width : ℕ) (text : List ℕ) → length text ≤ width → IsPadded width (length text) (text ++ drop (length text) (replicate width 0))
 IsPadded-written width text fits = record {
   filled = grind (arith, common_steps);

@@ -9,6 +9,7 @@ pub mod Limits
 pub mod Lost
 pub mod Machine
 pub mod Meaning
+pub mod Order
 pub mod Padding
 pub mod PointerSpelling
 pub mod Reach

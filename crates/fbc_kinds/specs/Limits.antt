@@ -1,61 +1,61 @@
 use Rattle.std.specs.Prelude.{◌≡◌, ◌+◌, ◌*◌, ◌-◌, ◌/◌, ◌^◌, ◌⊎◌, ◌==◌, ◌||◌, ℕ, Bool, min}
 
--- a page has one of five sizes, in bytes
+-- A page has one of five sizes, in bytes.
 abbrev pub IsPageSize : ℕ → Type 0
 IsPageSize size = (size ≡ 1024) ⊎ (size ≡ 2048) ⊎ (size ≡ 4096) ⊎ (size ≡ 8192) ⊎ (size ≡ 16384)
 
--- the same as a test
+-- The same as a test.
 abbrev pub is_page_size : ℕ → Bool
 is_page_size size = size == 1024 || size == 2048 || size == 4096 || size == 8192 || size == 16384
 
--- how many pages a page inventory page covers
+-- How many pages a page inventory page covers.
 abbrev pub inventory_bits : ℕ → ℕ
 inventory_bits size = (size - 16) * 8
 
--- how many transaction numbers stand in a transaction inventory page
+-- How many transaction numbers stand in a transaction inventory page.
 abbrev pub tip_numbers : ℕ → ℕ
 tip_numbers size = 4 * (size - 16)
 
--- how many slots a pointer page has
+-- How many slots a pointer page has.
 abbrev pub slots : ℕ → ℕ
 slots size = (size - 16) / 4
 
--- how many cells a data page has, for values of at most `length` bytes
+-- How many cells a data page has, for values of at most `length` bytes.
 abbrev pub cells : ℕ → ℕ → ℕ
 cells size length = (size - 16) / (12 + length)
 
--- the greatest transaction number
+-- The greatest transaction number.
 abbrev pub transaction_limit : ℕ → ℕ
 transaction_limit size = 64 * (size - 16)
 
--- how many relations a file has at most
+-- How many relations a file has at most.
 abbrev pub relation_limit : ℕ
 relation_limit = 8
 
--- how many pointer pages a relation has at most
+-- How many pointer pages a relation has at most.
 abbrev pub pointer_limit : ℕ
 pointer_limit = 4
 
--- the greatest length of a value, in bytes
+-- The greatest length of a value, in bytes.
 abbrev pub value_limit : ℕ
 value_limit = 200
 
--- the greatest length of a relation's name, in bytes
+-- The greatest length of a relation's name, in bytes.
 abbrev pub name_limit : ℕ
 name_limit = 15
 
--- how many page inventory pages a file has at most
+-- How many page inventory pages a file has at most.
 abbrev pub inventory_limit : ℕ
 inventory_limit = 64
 
--- how many transaction inventory pages a file has at most
+-- How many transaction inventory pages a file has at most.
 abbrev pub tip_limit : ℕ
 tip_limit = 16
 
--- page numbers and sequences have four bytes
+-- Page numbers and sequences have four bytes.
 abbrev pub number_limit : ℕ
 number_limit = 2 ^ 32
 
--- how many pages a file may have where its device reaches so far, in bytes
+-- How many pages a file may have where its device reaches so far, in bytes.
 abbrev pub file_pages : ℕ → ℕ → ℕ
 file_pages size reach = min (inventory_limit * inventory_bits size) (reach / size)

@@ -2,15 +2,15 @@ use Rattle.std.specs.Prelude.{◌≡◌, ◌≤◌, ◌-◌, ◌++◌, ℕ, List
 use Rattle.std.proofs.Common.{sym, ◌∙◌, ap}
 use Rattle.std.proofs.lemmas.List.{length-take-le, take-append-drop}
 
--- the text that a length and stored bytes stand for
+-- The text that a length and stored bytes stand for.
 abbrev pub text_of : ℕ → List ℕ → List ℕ
 text_of size bytes = take size bytes
 
--- a text with zeros behind it up to the width
+-- A text with zeros behind it up to the width.
 abbrev pub padded : ℕ → List ℕ → List ℕ
 padded width text = text ++ replicate (width - length text) 0
 
--- stored bytes fill the width, the text lies within them, and zeros follow it
+-- Stored bytes fill the width, the text lies within them, and zeros follow it.
 pub record IsPadded (width size : ℕ) (bytes : List ℕ) : Type 0 where
   pub filled : length bytes ≡ width
   pub within : size ≤ length bytes

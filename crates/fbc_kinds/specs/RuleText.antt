@@ -2,7 +2,7 @@ use Rattle.std.specs.Prelude.{ℕ, List, codes}
 use Rattle.fbc_kinds.specs.declared.rules.Rule.{Rule}
 use Rattle.fbc_kinds.specs.declared.rules.Rule.TheVariants as rule
 
--- the word that names a rule
+-- The word that names a rule.
 abbrev pub rule_text : Rule → List ℕ
 rule_text rule.Short = codes "short"
 rule_text rule.Kind = codes "kind"

@@ -1,15 +1,20 @@
-//! The vocabulary of the store: what stands in a page, what an edit of a page is, and what the
-//! one-thread machine is asked and answers. The definitions that every theorem cites stand in
-//! `specs/`.
+//! The vocabulary of the store: what stands in a page, what an edit of a page is, and what the one-thread
+//! machine is asked and answers. The definitions that every theorem cites stand in `specs/`.
+//!
+//! - Defined here: the limits of pages and their spelling, edits, views, reach, soundness, chains, what a
+//!   snapshot sees, the one-thread machine, the meaning of a file, and lost space.
+//! - Offered to the crates above: the types, and lemmas on these definitions (the files of `proofs/` that are
+//!   `pub`). The theorems stand with the crates that prove them.
+//! - **Proved**: `Listed` is its list and `Padded` its bytes, with zeros behind them up to its width;
+//!   `is_name` tells the names that a relation may have.
+//! - **Supposed**: a place that is set is within its list, a padded text within its width, and a circle has
+//!   at most eight owners.
 #![tactic(auto)]
 
-mod applying;
 mod commands;
-mod copies;
 mod edges;
 mod edits;
 mod faults;
-pub mod fitting;
 mod listed;
 mod padded;
 mod pages;
@@ -19,7 +24,6 @@ mod rules;
 mod shapes;
 mod snapshots;
 
-pub use applying::{apply, edits_keep_limits};
 pub use commands::Command;
 pub use edges::Edge;
 pub use edits::Edit;

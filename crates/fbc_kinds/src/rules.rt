@@ -3,8 +3,8 @@
 use std::fmt;
 use std::fmt::{Display, Formatter, Write};
 
-/// A rule of damage. The first rule that a page breaks, in the order of these variants where
-/// several could be named, is the one that is reported (docs/FORMATS.md).
+/// A rule of damage. Of the rules that a page breaks the first is reported, by the order for its kind
+/// in docs/FORMATS.md, which is not the order of these variants.
 #[derive(Clone, Copy, Debug, PartialEq, Eq)]
 pub enum Rule {
     /// The file is shorter than the part of the header that is read first.

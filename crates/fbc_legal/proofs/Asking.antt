@@ -48,7 +48,7 @@ module _ (owner : ℕ) (wanted : Resource) (s : LockState) where
   waits-step actor Die is = inl (dying actor is)
   waits-step actor _ is = inl is
 
-  -- what an ask comes to where its owner waits after it, but did not before
+  -- What an ask comes to where its owner waits after it, but did not before.
   pub data ComesTo (resource : Resource) (level : Level) (wait : Bool) (word : ℕ) : Type 0 where
     at_once : answer_to_ask s owner resource level wait ≡ Granted → ComesTo resource level wait word
     in_queue : answer_to_ask s owner resource level wait ≡ Queued → circle_from (after_ask s owner resource level word Queued) owner ≡ None → ComesTo resource level wait word

@@ -20,7 +20,7 @@ use Rattle.fbc_legal.specs.Circles.{HasJustAsked}
 use Rattle.fbc_legal.proofs.Pins.{clash}
 use Rattle.fbc_legal.proofs.ListTests.{any_implied, any_mapped, found_image}
 
--- none passes where there is no least of those that pass
+-- None passes where there is no least of those that pass.
 none_passes : (p : Request → Bool) (rs : List Request) → reduce lesser (filter p rs) ≡ None → list_any p rs ≡ false
 none_passes p [] none = refl
 none_passes p (r ∷ rs) none = go (p r) (none_passes p rs) none where
@@ -28,7 +28,7 @@ none_passes p (r ∷ rs) none = go (p r) (none_passes p rs) none where
   go true rest is = absurd cc
   go false rest is = rest is
 
--- and there is no least where none passes
+-- And there is no least where none passes.
 no_least : (p : Request → Bool) (rs : List Request) → list_any p rs ≡ false → reduce lesser (filter p rs) ≡ None
 no_least p [] none = refl
 no_least p (r ∷ rs) none = go (p r) (no_least p rs) none where
@@ -40,8 +40,8 @@ module _ (owner : ℕ) (resource : Resource) (level : Level) where
   abbrev in_way : Request → Bool
   in_way r = stands_in_way owner resource level r
 
-  -- an ask is granted at once where nobody is in the way
-  granted_free : (s : LockState) (wait : Bool) → answer_to_ask s owner resource level wait ≡ Granted → list_any in_way s.requests ≡ false
+  -- An ask is granted at once where nobody is in the way.
+  pub granted_free : (s : LockState) (wait : Bool) → answer_to_ask s owner resource level wait ≡ Granted → list_any in_way s.requests ≡ false
   granted_free s wait is = none_passes in_way s.requests (go (lacks_room s owner resource) (dead_of s) (holder_of s owner resource level) is) where
     beside : (holder : Request) (alive waits : Bool) → answer_beside waits (Some holder) ≡ Granted → ⊥
     beside holder alive waits is' = grind (arith, is')
@@ -52,7 +52,7 @@ module _ (owner : ℕ) (resource : Resource) (level : Level) where
     go false buried None is' = refl
     go false buried (Some r) is' = absurd (beside r r.alive wait is')
 
-  -- it is in nobody's way itself, and no more are in its way when it waits
+  -- It is in nobody's way itself, and no more are in its way when it waits.
   abbrev queued : LockState → ℕ → List Request
   queued s word = map (with_waiting owner resource level) (entered s.requests owner resource word)
 
@@ -78,14 +78,14 @@ pub record IsUnblocked (s : LockState) (owner : ℕ) (resource : Resource) : Typ
   pub by_wait : (wait : Request) → wait_of s owner ≡ Some wait → wait.owner ≡ owner → wait.resource ≡ resource → wait.waiting ≡ Some level
   pub by_request : (wanted : Level) → waiting_of s owner resource ≡ Some wanted → wanted ≡ level
 
--- what a queued ask waits for is found as it was asked
+-- What a queued ask waits for is found as it was asked.
 abbrev WaitsAsAsked : ℕ → Resource → Level → Request → Type 0
 WaitsAsAsked owner resource level r = is_of owner resource r ≡ true → r.waiting ≡ Some level
 
 waits_as_asked : (owner : ℕ) (resource : Resource) (level : Level) (x : Request) → WaitsAsAsked owner resource level (with_waiting owner resource level x)
 waits_as_asked owner resource level x is = grind (arith, is)
 
-unblocked-queued : (owner : ℕ) (resource : Resource) (level : Level) (s : LockState) (word : ℕ) → list_any (stands_in_way owner resource level) s.requests ≡ false
+pub unblocked-queued : (owner : ℕ) (resource : Resource) (level : Level) (s : LockState) (word : ℕ) → list_any (stands_in_way owner resource level) s.requests ≡ false
     → IsUnblocked (after_ask s owner resource level word Queued) owner resource
 unblocked-queued owner resource level s word free = record {
   level = level;

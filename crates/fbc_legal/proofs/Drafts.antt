@@ -8,13 +8,13 @@ use Rattle.fbc_levels.specs.declared.levels.Level.TheVariants.{Ex, Free}
 use Rattle.fbc_levels.specs.declared.resources.Resource.{Resource}
 use Rattle.fbc_levels.specs.declared.resources.Series.{Series}
 use Rattle.fbc_levels.specs.declared.resources.Series.TheVariants as series
-use Rattle.fbc_levels.specs.Resources.{is_same_resource}
+use Rattle.fbc_levels.specs.Resources.{is_same_resource, page_resource}
 use Rattle.fbc_lock_table.proofs.Ways.{same_resource}
 use Rattle.fbc_world.specs.declared.drafts.Draft.{Draft}
 use Rattle.fbc_world.specs.declared.events.Act.{Act}
 use Rattle.fbc_world.specs.declared.events.Act.TheVariants.{Die, Enter, Grant, Leave, Local, Lower, Opened, Read, Reap, Write}
 use Rattle.fbc_world.specs.declared.events.LocalEvent.TheVariants as local
-use Rattle.fbc_world.specs.Holdings.{is_draft_of, page_resource}
+use Rattle.fbc_world.specs.Holdings.{is_draft_of}
 use Rattle.fbc_world.specs.Locks.{waiting_of}
 use Rattle.fbc_world.specs.PageCell.{without}
 use Rattle.fbc_world.specs.World.{World, acted, page_after, with_edit}
@@ -24,7 +24,7 @@ use Rattle.fbc_legal.specs.Legal.{MayAct}
 use Rattle.fbc_legal.specs.Scene.{Scene}
 use Rattle.fbc_legal.proofs.Exclusion.{AreRequestsTrue, both_of, is_plain, same_number, waits_bare}
 
--- one draft, whose facts are known, after an event
+-- One draft, whose facts are known, after an event.
 module _ (at : Scene) (h : IsCoherent at.world) (t : AreRequestsTrue at.world) (owner : ℕ) (landed : Bool) where
   abbrev w : World
   w = at.world

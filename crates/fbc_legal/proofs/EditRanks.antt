@@ -8,20 +8,17 @@ use Rattle.fbc_kinds.specs.declared.pages.Page.{Page}
 use Rattle.fbc_kinds.specs.declared.pages.Page.TheVariants as kind
 use Rattle.fbc_kinds.specs.declared.pages.Relation.{Relation}
 use Rattle.fbc_kinds.specs.declared.shapes.Shape.{Shape}
-use Rattle.fbc_kinds.specs.Edits.{applied, given, is_next, pointed, takes_page, with_entry}
+use Rattle.fbc_kinds.specs.Edits.{applied, is_next, pointed, takes_page, with_entry}
 use Rattle.fbc_kinds.specs.Limits.{inventory_bits, inventory_limit, pointer_limit, tip_limit}
 use Rattle.fbc_kinds.specs.View.{header_in}
 use Rattle.fbc_world.specs.PageCell.{edited}
 use Rattle.fbc_legal.specs.Ranks.{header_rank, inventory_rank, is_inventory_place, named_rank, rank_in}
 use Rattle.fbc_legal.proofs.HeaderRanks.{NamesAnother, Rises, is_format, pointer_rises, rises-same, tip_rises}
 use Rattle.fbc_legal.proofs.RankOrder.{IsAtMost, at_most-self}
-
-given-some : (test : Bool) (content after : Page) → given test content ≡ Some after → content ≡ after
-given-some true content after is = cc
-given-some false content after is = absurd cc
+use Rattle.fbc_page_edits.proofs.Fitted.{given_some}
 
 module _ (shape : Shape) where
-  -- where page 0 is no header it becomes none
+  -- Where page 0 is no header it becomes none.
   no_header : (e : Edit) (before after : Page) → is_format e ≡ false → header_in (Some before) ≡ None → applied shape e before ≡ Some after → header_in (Some after) ≡ None
   no_header e before after plain none is = grind (arith, plain, none, is)
 
@@ -30,14 +27,14 @@ module _ (shape : Shape) where
     RisesTo e after = Rises e (Some header) (header_in (Some after)) page
 
     next : (number : ℕ) (after : Page) → applied shape (edit.SetNext number) (kind.Header header) ≡ Some after → RisesTo (edit.SetNext number) after
-    next number after is = rw (← given-some (is_next shape.size (length header.tips) number) (kind.Header (record header { next = number })) after is) (rises-same _ _ _ page refl)
+    next number after is = rw (← (given_some (is_next shape.size (length header.tips) number) (kind.Header (record header { next = number })) after is).1) (rises-same _ _ _ page refl)
 
     inventory : (after : Page) → applied shape edit.AddInventory (kind.Header header) ≡ Some after → RisesTo edit.AddInventory after
-    inventory after is = rw (← given-some (nat_lt header.inventories inventory_limit) (kind.Header (record header { inventories = header.inventories + 1 })) after is) (rises-same _ _ _ page refl)
+    inventory after is = rw (← (given_some (nat_lt header.inventories inventory_limit) (kind.Header (record header { inventories = header.inventories + 1 })) after is).1) (rises-same _ _ _ page refl)
 
     tip : (number : ℕ) (after : Page) → applied shape (edit.AddTip number) (kind.Header header) ≡ Some after → RisesTo (edit.AddTip number) after
     tip number after is =
-        rw (← given-some (takes_page tip_limit header.tips number) (kind.Header (record header { tips = header.tips ++ number ∷ [] })) after is) (tip_rises header page number)
+        rw (← (given_some (takes_page tip_limit header.tips number) (kind.Header (record header { tips = header.tips ++ number ∷ [] })) after is).1) (tip_rises header page number)
 
     pointer : (relation number : ℕ) (after : Page) → applied shape (edit.AddPointer relation number) (kind.Header header) ≡ Some after → RisesTo (edit.AddPointer relation number) after
     pointer relation number after is = entry_of (slice_get header.relations relation) refl is where
@@ -76,7 +73,7 @@ module _ (shape : Shape) where
   named-edited page e None after plain is = absurd (unspelled e after plain is)
   named-edited page e (Some before) after plain is = of_page page e before after plain is
 
--- what ranks of named pages do, ranks do
+-- What ranks of named pages do, ranks do.
 module _ (size page : ℕ) (before after : Option Header) where
   ranks-rise : IsAtMost (named_rank before page) (named_rank after page) → IsAtMost (rank_in size before page) (rank_in size after page)
   ranks-rise rises = go (page == 0) (page == 1) (is_inventory_place size page) where
@@ -92,7 +89,7 @@ module _ (size page : ℕ) (before after : Option Header) where
   ranks-stay : named_rank before page ≡ named_rank after page → rank_in size before page ≡ rank_in size after page
   ranks-stay same = ap (λ r. if page == 0 then header_rank else if page == 1 then inventory_rank 0 else if is_inventory_place size page then inventory_rank (page / inventory_bits size) else r) same
 
--- the edit makes ranks rise, and leaves that of a page that it does not name
+-- The edit makes ranks rise, and leaves that of a page that it does not name.
 module _ (shape : Shape) (size page : ℕ) (e : Edit) (before : Option Page) (after : Page) (plain : is_format e ≡ false) (is : edited shape e before ≡ Some after) where
   pub ranks_rise-edited : IsAtMost (rank_in size (header_in before) page) (rank_in size (header_in (Some after)) page)
   ranks_rise-edited = ranks-rise size page (header_in before) (header_in (Some after)) (named-edited shape page e before after plain is).rises

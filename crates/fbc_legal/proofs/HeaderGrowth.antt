@@ -10,7 +10,8 @@ use Rattle.fbc_world.specs.declared.drafts.Draft.{Draft}
 use Rattle.fbc_world.specs.declared.events.Act.{Act}
 use Rattle.fbc_world.specs.declared.events.Act.TheVariants.{Die, Local, Write}
 use Rattle.fbc_world.specs.declared.events.LocalEvent.TheVariants as local
-use Rattle.fbc_world.specs.Holdings.{is_draft_of, page_resource}
+use Rattle.fbc_world.specs.Holdings.{is_draft_of}
+use Rattle.fbc_levels.specs.Resources.{page_resource}
 use Rattle.fbc_world.specs.PageCell.{drafted, newest_in, page_for, without}
 use Rattle.fbc_world.specs.World.{World, acted, page_after, written}
 use Rattle.fbc_legal.specs.Guards.{Guard, GuardOfEdit}
@@ -30,7 +31,7 @@ Grows size kept draft = (page : ℕ) → IsAtMost (rank_in size (header_in kept)
 abbrev pub RanksGrow : ℕ → World → Type 0
 RanksGrow size w = Grows size (w.kept 0) (w.draft 0)
 
--- an own draft is the newest content
+-- An own draft is the newest content.
 pub newest-own : (owner : ℕ) (kept : Option Page) (draft : Option Draft) → IsOwnDraft owner draft → newest_in kept draft ≡ page_for owner kept draft
 newest-own owner kept None own = refl
 newest-own owner kept (Some draft) own = grind (arith, nat_tests, own)
@@ -39,11 +40,11 @@ pub own_from : (owner : ℕ) (draft : Option Draft) → is_draft_of owner draft 
 own_from owner None is = absurd cc
 own_from owner (Some draft) is = grind (arith, nat_tests, is)
 
--- the draft of a page that an owner has in EX is its own
+-- The draft of a page that an owner has in EX is its own.
 pub exclusive-own : (w : World) → IsCoherent w → (owner page : ℕ) → w.granted owner (page_resource page) ≡ Ex → IsOwnDraft owner (w.draft page)
 exclusive-own w x owner page is = own_draft w x owner page (usable _ (inr is))
 
--- page 0 is never formatted
+-- Page 0 is never formatted.
 pub never_format : (at : Scene) (owner : ℕ) (e : Edit) → IsEditOfRow at owner 0 e → is_format e ≡ false
 never_format at owner (edit.Format page_kind number relation sequence) g = absurd (g.no_header refl)
 never_format at owner _ g = refl
@@ -56,7 +57,7 @@ module _ (size : ℕ) where
     go true page = at_most-self _
     go false page = h page
 
-  -- an own draft that is written is newest and kept
+  -- An own draft that is written is newest and kept.
   grows-written : (owner : ℕ) (kept : Option Page) (draft : Option Draft) → is_draft_of owner draft ≡ true → Grows size (page_for owner kept draft) (without owner draft)
   grows-written owner kept None its = absurd cc
   grows-written owner kept (Some draft) its = rw its (λ page. at_most-self _)

@@ -13,7 +13,7 @@ use Rattle.fbc_kinds.specs.declared.pages.Relation.{Relation}
 use Rattle.fbc_legal.specs.Ranks.{is_pointer_of, named_rank, ranked}
 use Rattle.fbc_legal.proofs.RankOrder.{IsAtMost, at_most-same, at_most-self}
 
--- the first place that passes stays where one more comes behind
+-- The first place that passes stays where one more comes behind.
 abbrev first_place : Option ℕ → Bool → ℕ → Option ℕ
 first_place (Some place) last count = Some place
 first_place None true count = Some count
@@ -29,14 +29,14 @@ position-push p xs y =
     place_push (position_or_len p xs) (position_or_len p (xs ++ y ∷ [])) (length xs) (length (xs ++ y ∷ [])) (p y)
     (prefix_len-le-length (λ x. not (p x)) xs) (length-append xs (y ∷ [])) (position_or_len_push p xs y)
 
--- a test of some element after one got a further chance
+-- A test of some element after one got a further chance.
 any_set : {X : Type 0} (p : X → Bool) (xs : List X) (i : ℕ) (x y : X) (more : Bool) → slice_get xs i ≡ Some x → p y ≡ (p x || more)
     → list_any p (slice_set xs i y) ≡ (list_any p xs || more)
 any_set p [] i x y more is passes = absurd cc
 any_set p (z ∷ xs) zero x y more is passes = grind (arith, is, passes)
 any_set p (z ∷ xs) (suc i) x y more is passes = grind (arith, any_set p xs i x y more is passes)
 
--- the rank of a page that may become a tip, and of one that may become a pointer page
+-- The rank of a page that may become a tip, and of one that may become a pointer page.
 ranked_tip : (place : Option ℕ) (last : Bool) (count : ℕ) (points : Bool) (page : ℕ) → IsAtMost (ranked place points page) (ranked (first_place place last count) points page)
 ranked_tip (Some place) last count points page = at_most-self _
 ranked_tip None true count true page = grind (arith)
@@ -59,7 +59,7 @@ ranked_pointer-other place true more page other = refl
 ranked_pointer-other place false true page other = absurd cc
 ranked_pointer-other place false false page other = refl
 
--- the edit is no format, and names another page than this, if it names one
+-- The edit is no format, and names another page than this, if it names one.
 abbrev pub is_format : Edit → Bool
 is_format (edit.Format page_kind page relation sequence) = true
 is_format _ = false
@@ -69,7 +69,7 @@ NamesAnother (edit.AddTip number) page = number ≢ page
 NamesAnother (edit.AddPointer relation number) page = number ≢ page
 NamesAnother _ page = Unit {0}
 
--- the rank rises, and stays where another page is named
+-- The rank rises, and stays where another page is named.
 pub record Rises (e : Edit) (before after : Option Header) (page : ℕ) : Type 0 where
   pub rises : IsAtMost (named_rank before page) (named_rank after page)
   pub stays : NamesAnother e page → named_rank before page ≡ named_rank after page

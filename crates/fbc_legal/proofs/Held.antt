@@ -8,16 +8,16 @@ use Rattle.fbc_levels.specs.declared.resources.Resource.{Resource}
 use Rattle.fbc_levels.specs.declared.resources.Series.{Series}
 use Rattle.fbc_levels.specs.declared.resources.Series.TheVariants as series
 use Rattle.fbc_levels.specs.LockState.{request_of}
-use Rattle.fbc_levels.specs.Resources.{is_same_resource}
+use Rattle.fbc_levels.specs.Resources.{is_same_resource, page_resource}
 use Rattle.fbc_lock_table.proofs.Ways.{same_resource}
 use Rattle.fbc_world.specs.declared.events.Act.{Act}
 use Rattle.fbc_world.specs.declared.events.Act.TheVariants.{Die, Enter, Grant, Leave, Local, Lower, Opened, Read, Reap, Write}
 use Rattle.fbc_world.specs.declared.events.LocalEvent.TheVariants as local
-use Rattle.fbc_world.specs.Holdings.{page_resource}
 use Rattle.fbc_world.specs.Locks.{waiting_of}
 use Rattle.fbc_world.specs.PageCell.{recopied}
 use Rattle.fbc_world.specs.World.{World, acted, page_after}
-use Rattle.fbc_legal.specs.Coherent.{CopiesAreHeld, IsCoherent, IsCopyHeld, is_usable}
+use Rattle.fbc_legal.specs.Coherent.{CopiesAreHeld, IsCoherent, IsCopyHeld}
+use Rattle.fbc_levels.specs.Levels.{is_page_level}
 use Rattle.fbc_legal.specs.Guards.{Guard, GuardOfSeriesLowering}
 use Rattle.fbc_legal.specs.Legal.{MayAct}
 use Rattle.fbc_legal.specs.Scene.{Scene}
@@ -28,11 +28,11 @@ module _ (at : Scene) (h : IsCoherent at.world) (t : AreRequestsTrue at.world) (
   abbrev w : World
   w = at.world
 
-  -- who has no request for a page has no copy of it
+  -- Who has no request for a page has no copy of it.
   unasked : (page : ℕ) → request_of w.locks owner (page_resource page) ≡ None → w.copy owner page ≡ None
   unasked page none = no_copy w h owner page (rw (← t.agrees owner (page_resource page), none) refl)
 
-  -- who waits for a page has no copy of it
+  -- Who waits for a page has no copy of it.
   grant_held : (r : Resource) (level : Level) → waiting_of w.locks owner r ≡ Some level → CopiesAreHeld (acted at.shape w owner (Grant r level) landed)
   grant_held r level waits o p = go ((o == owner) && is_same_resource r (page_resource p)) refl where
     none : (o == owner) && is_same_resource r (page_resource p) ≡ true → w.copy o p ≡ None
@@ -51,12 +51,12 @@ module _ (at : Scene) (h : IsCoherent at.world) (t : AreRequestsTrue at.world) (
   edit_held : (page : ℕ) (after : Option Page) → w.is_alive owner ≡ true → w.granted owner (page_resource page) ≡ Ex
       → (o p : ℕ) → IsCopyHeld w o p (if (o == owner) && (p == page) then recopied (w.copy o p) after else w.copy o p)
   edit_held page after alive exclusive o p = go ((o == owner) && (p == page)) refl where
-    own : (o == owner) && (p == page) ≡ true → (w.is_alive o ≡ true) × (is_usable (w.granted o (page_resource p)) ≡ true)
+    own : (o == owner) && (p == page) ≡ true → (w.is_alive o ≡ true) × (is_page_level (w.granted o (page_resource p)) ≡ true)
     own key =
         let keys = both_of (o == owner) (p == page) key in
         rw (same_number o owner keys.0, same_number p page keys.1, exclusive) (alive, refl)
 
-    any : (copy : Option Page) → (w.is_alive o ≡ true) × (is_usable (w.granted o (page_resource p)) ≡ true) → IsCopyHeld w o p copy
+    any : (copy : Option Page) → (w.is_alive o ≡ true) × (is_page_level (w.granted o (page_resource p)) ≡ true) → IsCopyHeld w o p copy
     any None both = tt
     any (Some content) both = both
 

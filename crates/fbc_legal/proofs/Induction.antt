@@ -7,7 +7,7 @@ use Rattle.fbc_world.specs.declared.events.Act.{Act}
 use Rattle.fbc_world.specs.declared.events.Act.TheVariants.{Die, Write}
 use Rattle.fbc_world.specs.History.{History}
 use Rattle.fbc_world.specs.World.{IsPairIn, acted, start, world_of}
-use Rattle.fbc_world.specs.WriteOrder.{StandsBefore}
+use Rattle.fbc_kinds.specs.Order.{StandsBefore}
 use Rattle.fbc_world.proofs.Apart.{apart-history}
 use Rattle.fbc_world.proofs.Granting.{granted-history}
 use Rattle.fbc_world.proofs.WorldLaws.{IsReplayed-world}
@@ -24,7 +24,7 @@ use Rattle.fbc_legal.proofs.Order.{order-acted}
 use Rattle.fbc_legal.proofs.Pairs.{pairs-acted}
 use Rattle.fbc_legal.proofs.Waits.{bare-acted}
 
--- before the first event there are no pairs
+-- Before the first event there are no pairs.
 none_before : (file : View) (x y : ℕ) → StandsBefore (IsPairIn (start file)) x y → ⊥
 none_before file x y (StandsBefore.straight high low pair) = absurd (let is : false ≡ true = pair.1 in cc)
 none_before file x y (StandsBefore.through high between low pair rest) = absurd (let is : false ≡ true = pair.1 in cc)
@@ -40,7 +40,7 @@ IsCoherent-start file = record {
   order = λ p. none_before file p p;
 }
 
--- after an act that is no failed write
+-- After an act that is no failed write.
 plain : (at : Scene) → IsCoherent at.world → AreRequestsTrue at.world → (owner : ℕ) (landed : Bool) (act : Act) → MayAct at owner act → Guard at owner act → is_plain act ≡ true
     → IsCoherent (acted at.shape at.world owner act landed)
 plain at h t owner landed act may g is = record {
@@ -53,7 +53,7 @@ plain at h t owner landed act may g is = record {
   order = order-acted at h owner landed act g is;
 }
 
--- after any act: a failed write is a death, behind a write if it landed
+-- After any act: a failed write is a death, behind a write if it landed.
 pub IsCoherent-acted : (at : Scene) → IsCoherent at.world → AreRequestsTrue at.world → (owner : ℕ) (landed : Bool) (act : Act) → MayAct at owner act → Guard at owner act
     → IsCoherent (acted at.shape at.world owner act landed)
 IsCoherent-acted at h t owner true (Write page reason true) may g =
@@ -63,7 +63,7 @@ IsCoherent-acted at h t owner false (Write page reason true) may g = plain at h 
 IsCoherent-acted at h t owner landed (Write page reason false) may g = plain at h t owner landed (Write page reason false) may g refl
 IsCoherent-acted at h t owner landed act may g = plain at h t owner landed act may g refl
 
--- what the requests say is granted
+-- What the requests say is granted.
 pub requests_true : (shape : Shape) (file : View) (history : History) → AreRequestsTrue (world_of shape file history)
 requests_true shape file history =
     let is = IsReplayed-world shape file history in

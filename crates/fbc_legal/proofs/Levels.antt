@@ -15,7 +15,7 @@ use Rattle.fbc_legal.specs.Guards.{Guard}
 use Rattle.fbc_legal.specs.Scene.{Scene}
 use Rattle.fbc_legal.proofs.Exclusion.{both_of, is_plain, same_number}
 
--- one owner's level on one resource is another, that goes beside those of others there
+-- One owner's level on one resource is another, that goes beside those of others there.
 module _ (granted : ℕ → Resource → Level) (beside : (owner other : ℕ) (resource : Resource) → owner ≢ other → is_compatible (granted owner resource) (granted other resource) ≡ true)
     (o : ℕ) (r : Resource) (new : Level) (goes : (other : ℕ) → other ≢ o → is_compatible new (granted other r) ≡ true) where
   key : ℕ → Resource → Bool

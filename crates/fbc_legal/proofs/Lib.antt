@@ -1,5 +1,6 @@
 pub mod Exclusion
 pub mod Levels
+pub mod BareWaits
 pub mod Waits
 pub mod Lowering
 pub mod Held
@@ -27,3 +28,9 @@ pub mod Ranked
 pub mod AtOnce
 pub mod PageWaits
 pub mod WaitsTold
+pub mod OneWait
+pub mod Through
+pub mod NumberEdges
+pub mod NumberLowerings
+pub mod NumberCircles
+pub mod AllWaits

@@ -5,16 +5,15 @@ use Rattle.fbc_blocking.specs.Callbacks.{wanted_levels}
 use Rattle.fbc_levels.specs.declared.levels.Level.{Level}
 use Rattle.fbc_levels.specs.declared.levels.Level.TheVariants.{Ex, Free, Pr}
 use Rattle.fbc_levels.specs.declared.resources.Callback.{Callback}
-use Rattle.fbc_levels.specs.Levels.{highest_beside, is_compatible, is_free}
+use Rattle.fbc_levels.specs.Levels.{highest_beside, is_compatible, is_free, is_page_level}
 use Rattle.fbc_world.specs.History.{History}
 use Rattle.fbc_world.specs.Locks.{locks_of}
 use Rattle.fbc_legal.specs.Causes.{IsPolled, MeetsLowering}
-use Rattle.fbc_legal.specs.Coherent.{is_usable}
 use Rattle.fbc_legal.specs.Scene.{Scene}
 
--- no lock, or one by which a page may be used
+-- No lock, or one by which a page may be used.
 abbrev pub is_none_or_usable : Level → Bool
-is_none_or_usable level = is_free level || is_usable level
+is_none_or_usable level = is_free level || is_page_level level
 
 highest : (wanted : List Level) → is_none_or_usable (highest_beside wanted) ≡ true
 highest wanted = go (list_all (is_compatible Ex) wanted) (list_all (is_compatible Pr) wanted) where

@@ -8,20 +8,21 @@ use Rattle.fbc_world.specs.declared.drafts.Draft.{Draft}
 use Rattle.fbc_world.specs.declared.events.Act.{Act}
 use Rattle.fbc_world.specs.declared.events.Act.TheVariants.{Die, Local, Lower, Read, Write}
 use Rattle.fbc_world.specs.declared.events.LocalEvent.TheVariants as local
-use Rattle.fbc_world.specs.Holdings.{page_resource}
+use Rattle.fbc_levels.specs.Resources.{page_resource}
 use Rattle.fbc_world.specs.PageCell.{newest_in, page_for, without}
 use Rattle.fbc_world.specs.World.{World, acted, newest_of, page_after, with_edit}
-use Rattle.fbc_legal.specs.Coherent.{CopiesAreNewest, IsCoherent, IsDraftHeld, IsNewest, is_usable}
+use Rattle.fbc_legal.specs.Coherent.{CopiesAreNewest, IsCoherent, IsDraftHeld, IsNewest}
+use Rattle.fbc_levels.specs.Levels.{is_page_level}
 use Rattle.fbc_legal.specs.Guards.{Guard}
 use Rattle.fbc_legal.specs.Scene.{Scene}
 use Rattle.fbc_legal.proofs.Exclusion.{is_plain, no_other_copy, same_number, undrafted, usable}
 
--- what is kept is the newest content where there is no draft
+-- What is kept is the newest content where there is no draft.
 kept_newest : (kept : Option Page) (draft : Option Draft) → draft ≡ None → IsNewest kept (newest_in kept draft)
 kept_newest None draft none = tt
 kept_newest (Some content) draft none = rw none refl
 
--- a write leaves the newest content
+-- A write leaves the newest content.
 written_newest : (owner : ℕ) (kept : Option Page) (draft : Option Draft) → newest_in (page_for owner kept draft) (without owner draft) ≡ newest_in kept draft
 written_newest owner kept None = refl
 written_newest owner kept (Some d) = go (d.owner == owner) where
@@ -33,7 +34,7 @@ module _ (at : Scene) (h : IsCoherent at.world) (owner : ℕ) (landed : Bool) wh
   abbrev w : World
   w = at.world
 
-  read : (page : ℕ) (fault : Bool) → is_usable (w.granted owner (page_resource page)) ≡ true → w.copy owner page ≡ None → CopiesAreNewest (acted at.shape w owner (Read page fault) landed)
+  read : (page : ℕ) (fault : Bool) → is_page_level (w.granted owner (page_resource page)) ≡ true → w.copy owner page ≡ None → CopiesAreNewest (acted at.shape w owner (Read page fault) landed)
   read page fault may none o p = go ((o == owner) && (p == page)) refl fault where
     go : (b : Bool) → (o == owner) && (p == page) ≡ b → (f : Bool) → IsNewest (if b then (if f then None else w.kept p) else w.copy o p) (newest_of w p)
     go true key true = tt
@@ -49,7 +50,7 @@ module _ (at : Scene) (h : IsCoherent at.world) (owner : ℕ) (landed : Bool) wh
   was : (o p : ℕ) (draft : Option Draft) → w.draft p ≡ draft → IsNewest (w.copy o p) (newest_in (w.kept p) draft)
   was o p draft is = rw (← is) (h.newest o p)
 
-  -- a draft is lost with its owner; nobody else had a copy of that page
+  -- A draft is lost with its owner; nobody else had a copy of that page.
   pub newest-died : CopiesAreNewest (acted at.shape w owner Die landed)
   newest-died o p = go (o == owner) refl (w.draft p) refl (h.drafts p) where
     go : (b : Bool) → o == owner ≡ b → (draft : Option Draft) → w.draft p ≡ draft → IsDraftHeld w p draft → IsNewest (if b then None else w.copy o p) (newest_in (w.kept p) (without owner draft))

@@ -5,19 +5,19 @@ use Rattle.fbc_world.specs.declared.events.Act.{Act}
 use Rattle.fbc_world.specs.declared.events.Act.TheVariants.{Die, Local, Write}
 use Rattle.fbc_world.specs.declared.events.LocalEvent.TheVariants as local
 use Rattle.fbc_world.specs.World.{World, IsPairIn, acted}
-use Rattle.fbc_world.specs.WriteOrder.{StandsBefore}
+use Rattle.fbc_kinds.specs.Order.{StandsBefore}
 use Rattle.fbc_legal.specs.Coherent.{IsCoherent, PairsFormNoCircle}
 use Rattle.fbc_legal.specs.Guards.{Guard, GuardOfBefore}
 use Rattle.fbc_legal.specs.Scene.{Scene}
 use Rattle.fbc_legal.proofs.Exclusion.{is_plain}
 
--- what stands before another by some pairs does so by more
+-- What stands before another by some pairs does so by more.
 pub stands_by_more : (P Q : ℕ → ℕ → Type 0) → ((x y : ℕ) → P x y → Q x y) → (x y : ℕ) → StandsBefore P x y → StandsBefore Q x y
 stands_by_more P Q more x y (StandsBefore.straight high low pair) = StandsBefore.straight high low (more high low pair)
 stands_by_more P Q more x y (StandsBefore.through high between low pair rest) = StandsBefore.through high between low (more high between pair) (stands_by_more P Q more between low rest)
 
 module _ (P : ℕ → ℕ → Type 0) where
-  -- the one is the other, or stands before it
+  -- The one is the other, or stands before it.
   abbrev pub Leads : ℕ → ℕ → Type 0
   Leads x y = (x ≡ y) ⊎ StandsBefore P x y
 
@@ -35,7 +35,7 @@ module _ (P : ℕ → ℕ → Type 0) where
   leads_on x y z (inr path) (inr rest) = inr (stands_on x y z path rest)
 
   module _ (Q : ℕ → ℕ → Type 0) (high low : ℕ) (known : (x y : ℕ) → Q x y → P x y ⊎ ((x ≡ high) × (y ≡ low))) where
-    -- a path by one pair more is one without it, or one on both sides of it
+    -- A path by one pair more is one without it, or one on both sides of it.
     abbrev Outcome : ℕ → ℕ → Type 0
     Outcome x y = StandsBefore P x y ⊎ (Leads x high × Leads low y)
 
@@ -57,7 +57,7 @@ module _ (at : Scene) (h : IsCoherent at.world) (owner : ℕ) (landed : Bool) wh
   abbrev w : World
   w = at.world
 
-  -- where no pair is new, no circle is
+  -- Where no pair is new, no circle is.
   fewer : (act : Act) → ((o x y : ℕ) → (acted at.shape w owner act landed).has_pair o x y ≡ true → w.has_pair o x y ≡ true) → PairsFormNoCircle (acted at.shape w owner act landed)
   fewer act less page circle = h.order page (stands_by_more (IsPairIn (acted at.shape w owner act landed)) (IsPairIn w) (λ x y pair. (pair.0, less pair.0 x y pair.1)) page page circle)
 

@@ -13,7 +13,7 @@ use Rattle.fbc_levels.specs.LockState.{is_wait_of, wait_of}
 use Rattle.fbc_levels.specs.Waits.{IsCircle, Leads}
 use Rattle.fbc_world.specs.declared.drafts.Draft.{Draft}
 use Rattle.fbc_world.specs.History.{History}
-use Rattle.fbc_world.specs.Holdings.{page_resource}
+use Rattle.fbc_levels.specs.Resources.{page_resource}
 use Rattle.fbc_world.specs.PageCell.{newest_in, page_for}
 use Rattle.fbc_world.specs.World.{World, world_of}
 use Rattle.fbc_world.proofs.Found.{find_passes}
@@ -47,7 +47,7 @@ module _ (R : ℕ → ℕ → Type 0) (height : ℕ → Rank) (rises : (a b c : 
       let after = begins owner rest owner circle in
       lower-self _ (climbs owner rest owner after.0 circle after.1)
 
--- what an owner may know of the header gives no higher ranks than the newest one
+-- What an owner may know of the header gives no higher ranks than the newest one.
 known : (size page owner : ℕ) (kept : Option Page) (draft : Option Draft) → Grows size kept draft
     → IsAtMost (rank_in size (header_in (page_for owner kept draft)) page) (rank_in size (header_in (newest_in kept draft)) page)
 known size page owner kept None grow = at_most-self _
@@ -57,7 +57,7 @@ known size page owner kept (Some draft) grow = go (draft.owner == owner) where
   go false = grow page
 
 -- The page that a request waits for.
-abbrev page_of : Option Request → ℕ
+abbrev pub page_of : Option Request → ℕ
 page_of found = option_map_or (λ (r : Request). r.resource.key) found 0
 
 module _ (shape : Shape) (file : View) (history : History) (legal : IsLegal shape file history) where
@@ -70,19 +70,19 @@ module _ (shape : Shape) (file : View) (history : History) (legal : IsLegal shap
   h : IsRanked at
   h = IsRanked-legal shape file history legal
 
-  abbrev awaited : ℕ → ℕ
+  abbrev pub awaited : ℕ → ℕ
   awaited owner = page_of (wait_of w.locks owner)
 
   -- The owner waits for the page, not as one that has just asked with nobody in the way, and the other has it pinned.
-  record IsHeldUp (owner other page : ℕ) : Type 0 where
-    waits : waits_in w.locks owner (page_resource page) ≡ true
-    behind : HasJustAsked history owner (page_resource page) → ⊥
-    pinned : w.is_pinned other page ≡ true
+  pub record IsHeldUp (owner other page : ℕ) : Type 0 where
+    pub waits : waits_in w.locks owner (page_resource page) ≡ true
+    pub behind : HasJustAsked history owner (page_resource page) → ⊥
+    pub pinned : w.is_pinned other page ≡ true
 
-  unblocked : (owner : ℕ) (resource : Resource) → HasJustAsked history owner resource → IsUnblocked w.locks owner resource
+  pub unblocked : (owner : ℕ) (resource : Resource) → HasJustAsked history owner resource → IsUnblocked w.locks owner resource
   unblocked owner resource just = rw (IsReplayed-world shape file history).locks_is (unblocked-just history owner resource just)
 
-  held_up : (owner other : ℕ) → IsHeldOverPage w owner other → IsHeldUp owner other (awaited owner)
+  pub held_up : (owner other : ℕ) → IsHeldOverPage w owner other → IsHeldUp owner other (awaited owner)
   held_up owner other held = go (wait_of w.locks owner) refl held.1 where
     go : (found : Option Request) → wait_of w.locks owner ≡ found → IsSomeAnd found (λ wait. (wait.resource.series ≡ series.Page) × (w.is_pinned other wait.resource.key ≡ true)) → IsHeldUp owner other (page_of found)
     go None is over = absurd over

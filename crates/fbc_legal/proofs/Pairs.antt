@@ -8,25 +8,25 @@ use Rattle.fbc_levels.specs.declared.levels.Level.TheVariants.{Ex, Free}
 use Rattle.fbc_levels.specs.declared.resources.Resource.{Resource}
 use Rattle.fbc_levels.specs.declared.resources.Series.{Series}
 use Rattle.fbc_levels.specs.declared.resources.Series.TheVariants as series
-use Rattle.fbc_levels.specs.Resources.{is_same_resource}
+use Rattle.fbc_levels.specs.Resources.{is_same_resource, page_resource}
 use Rattle.fbc_lock_table.proofs.Ways.{same_resource}
 use Rattle.fbc_world.specs.declared.drafts.Draft.{Draft}
 use Rattle.fbc_world.specs.declared.events.Act.{Act}
 use Rattle.fbc_world.specs.declared.events.Act.TheVariants.{Die, Enter, Grant, Leave, Local, Lower, Opened, Reap, Write}
 use Rattle.fbc_world.specs.declared.events.LocalEvent.TheVariants as local
-use Rattle.fbc_world.specs.Holdings.{is_draft_of, page_resource}
+use Rattle.fbc_world.specs.Holdings.{is_draft_of}
 use Rattle.fbc_world.specs.Locks.{waiting_of}
 use Rattle.fbc_world.specs.PageCell.{without}
 use Rattle.fbc_world.specs.World.{World, acted, page_after, with_edit}
-use Rattle.fbc_world.specs.WriteOrder.{StandsBefore}
+use Rattle.fbc_kinds.specs.Order.{StandsBefore}
 use Rattle.fbc_legal.specs.Coherent.{IsCoherent, IsDraftHeld, IsPairHeld, PairsAreHeld}
 use Rattle.fbc_legal.specs.Guards.{Guard, GuardOfBefore, GuardOfSeriesLowering}
 use Rattle.fbc_legal.specs.Legal.{MayAct}
 use Rattle.fbc_legal.specs.Scene.{Scene}
 use Rattle.fbc_legal.proofs.Exclusion.{AreRequestsTrue, both_of, excluded, is_plain, same_number, waits_bare}
 
--- a draft that is not lost
-kept_draft : (owner other : ℕ) (draft : Option Draft) → other == owner ≡ false → is_draft_of other draft ≡ true → is_draft_of other (without owner draft) ≡ true
+-- A draft that is not lost.
+pub kept_draft : (owner other : ℕ) (draft : Option Draft) → other == owner ≡ false → is_draft_of other draft ≡ true → is_draft_of other (without owner draft) ≡ true
 kept_draft owner other None apart is = is
 kept_draft owner other (Some d) apart is = grind (arith, nat_tests, apart, is)
 
@@ -49,7 +49,7 @@ module _ (at : Scene) (h : IsCoherent at.world) (t : AreRequestsTrue at.world) (
     go true key = absurd (not_granted key)
     go false key = (pair.0, pair.1, rw key pair.2)
 
-  -- before a page that is lowered none stands
+  -- Before a page that is lowered none stands.
   lower : (kind : Series) (number : ℕ) (level : Level) → GuardOfSeriesLowering at owner kind number level → PairsAreHeld (acted at.shape w owner (Lower (record { series = kind; key = number }) level) landed)
   lower series.Page number level g o high low has = go ((o == owner) && (number == low)) refl where
     pair : IsPairHeld w o high low
@@ -62,7 +62,7 @@ module _ (at : Scene) (h : IsCoherent at.world) (t : AreRequestsTrue at.world) (
       let pair = h.pairs o high low has in
       (pair.0, pair.1, grind (arith, pair.2))
 
-  -- the page that is edited is the draft of no other
+  -- The page that is edited is the draft of no other.
   drafter : (page : ℕ) → w.granted owner (page_resource page) ≡ Ex → (o : ℕ) (draft : Option Draft) → IsDraftHeld w page draft → is_draft_of o draft ≡ true → o ≡ owner
   drafter page exclusive o None held is = absurd cc
   drafter page exclusive o (Some d) held is = grind (arith, nat_tests, excluded w h d.owner owner (page_resource page), exclusive, held.1, is)

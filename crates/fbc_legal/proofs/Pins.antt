@@ -4,24 +4,24 @@ use Rattle.std.proofs.lemmas.Bool.Decides.{nat_tests}
 use Rattle.fbc_levels.specs.declared.levels.Level.{Level}
 use Rattle.fbc_levels.specs.declared.levels.Level.TheVariants.{Free}
 use Rattle.fbc_levels.specs.declared.resources.Resource.{Resource}
-use Rattle.fbc_levels.specs.Resources.{is_same_resource}
+use Rattle.fbc_levels.specs.Resources.{is_same_resource, page_resource}
 use Rattle.fbc_levels.specs.LockState.{LockState}
 use Rattle.fbc_lock_table.proofs.Ways.{same_resource}
 use Rattle.fbc_world.specs.declared.events.Act.{Act}
 use Rattle.fbc_world.specs.declared.events.Act.TheVariants.{Die, Enter, Grant, Leave, Local, Lower, Opened, Reap, Write}
 use Rattle.fbc_world.specs.declared.events.LocalEvent.TheVariants as local
-use Rattle.fbc_world.specs.Holdings.{page_resource}
 use Rattle.fbc_world.specs.World.{World, acted, dead, written}
 use Rattle.fbc_legal.specs.Guards.{Guard, GuardOfGrant, GuardOfLower, GuardOfPin}
 use Rattle.fbc_legal.specs.Legal.{MayAct}
 use Rattle.fbc_legal.specs.Scene.{Scene}
-use Rattle.fbc_legal.specs.Coherent.{IsCoherent, is_usable}
+use Rattle.fbc_legal.specs.Coherent.{IsCoherent}
+use Rattle.fbc_levels.specs.Levels.{is_page_level}
 use Rattle.fbc_legal.proofs.Exclusion.{AreRequestsTrue, usable, waits_bare}
 
 -- The pin's owner is alive, and may use the page.
 pub record IsPinHeld (w : World) (owner page : ℕ) : Type 0 where
   pub alive : w.is_alive owner ≡ true
-  pub usable : is_usable (w.granted owner (page_resource page)) ≡ true
+  pub usable : is_page_level (w.granted owner (page_resource page)) ≡ true
 
 abbrev pub PinsAreHeld : World → Type 0
 PinsAreHeld w = (owner page : ℕ) → w.is_pinned owner page ≡ true → IsPinHeld w owner page
@@ -42,7 +42,7 @@ module _ (w : World) (h : PinsAreHeld w) where
   pins-leave : (owner : ℕ) → ((page : ℕ) → w.is_pinned owner page ≡ false) → (other page : ℕ) → w.is_pinned other page ≡ true → (if other == owner then false else w.is_alive other) ≡ true
   pins-leave owner none other page pinned = grind (arith, nat_tests, none page, pinned, h other page pinned)
 
-  pins-reap : (gone other page : ℕ) → w.is_alive gone ≡ false → w.is_pinned other page ≡ true → is_usable (if other == gone then Free else w.granted other (page_resource page)) ≡ true
+  pins-reap : (gone other page : ℕ) → w.is_alive gone ≡ false → w.is_pinned other page ≡ true → is_page_level (if other == gone then Free else w.granted other (page_resource page)) ≡ true
   pins-reap gone other page is_dead pinned = grind (arith, nat_tests, is_dead, h other page pinned)
 
 module _ (at : Scene) (h : PinsAreHeld at.world) (x : IsCoherent at.world) (t : AreRequestsTrue at.world) (owner : ℕ) where
@@ -50,9 +50,9 @@ module _ (at : Scene) (h : PinsAreHeld at.world) (x : IsCoherent at.world) (t : 
   w = at.world
 
   module _ (resource : Resource) (level : Level) (other page : ℕ) (pinned : w.is_pinned other page ≡ true) where
-    -- a changed level is not that of a pinned page
+    -- A changed level is not that of a pinned page.
     abbrev UsableAs : Bool → Type 0
-    UsableAs b = is_usable (if b then level else w.granted other (page_resource page)) ≡ true
+    UsableAs b = is_page_level (if b then level else w.granted other (page_resource page)) ≡ true
 
     elsewhere : ((other ≡ owner) → resource ≡ page_resource page → ⊥) → UsableAs ((other == owner) && is_same_resource resource (page_resource page))
     elsewhere never = go (other == owner) refl (is_same_resource resource (page_resource page)) refl where

@@ -15,7 +15,7 @@ use Rattle.fbc_world.specs.World.{acted, world_of}
 use Rattle.fbc_world.proofs.WorldLaws.{IsReplayed-world}
 use Rattle.fbc_legal.specs.Circles.{HasJustAsked}
 use Rattle.fbc_legal.specs.Coherent.{IsCoherent}
-use Rattle.fbc_legal.specs.Legal.{Follows, FollowsAct, IsGrantOf, IsLegal, MayHappen}
+use Rattle.fbc_legal.specs.Legal.{ComesNext, ComesNextAfter, IsGrantOf, IsLegal, MayHappen}
 use Rattle.fbc_legal.specs.Lives.{entered}
 use Rattle.fbc_legal.specs.Ranks.{WaitsUpward}
 use Rattle.fbc_legal.specs.Scene.{Scene, scene_of}
@@ -41,9 +41,9 @@ IsRanked-start shape file = record {
   upward = λ owner resource alive waits. absurd cc;
 }
 
--- what is asked with nobody in the way is granted next, and its owner waits for it no more
-granted_next : (before : History) (owner : ℕ) (resource : Resource) (level : Level) (last_actor : ℕ) (last_act : Act) (wait : Bool) (word : ℕ) (moment : Moment)
-    → last_actor ≡ owner → last_act ≡ Ask resource level wait word → answer_to_ask (locks_of before) owner resource level wait ≡ Granted → FollowsAct before last_actor last_act moment
+-- What is asked with nobody in the way is granted next, and its owner waits for it no more.
+pub granted_next : (before : History) (owner : ℕ) (resource : Resource) (level : Level) (last_actor : ℕ) (last_act : Act) (wait : Bool) (word : ℕ) (moment : Moment)
+    → last_actor ≡ owner → last_act ≡ Ask resource level wait word → answer_to_ask (locks_of before) owner resource level wait ≡ Granted → ComesNextAfter before last_actor last_act moment
     → IsGrantOf owner resource level moment
 granted_next before owner resource level last_actor last_act wait word moment its is free follows = (rw (its, is) at follows) free
 
@@ -52,7 +52,7 @@ waits_no_more : (at : Scene) (owner : ℕ) (resource : Resource) (level : Level)
 waits_no_more at owner resource level moment grant waits =
     granted_waits_not owner resource (with_entered at.world.locks.requests owner resource 0) level (rw (grant.actor, grant.act) at waits)
 
-not_just : (shape : Shape) (file : View) (before : History) (moment : Moment) (owner : ℕ) (resource : Resource) → Follows before moment → HasJustAsked before owner resource
+not_just : (shape : Shape) (file : View) (before : History) (moment : Moment) (owner : ℕ) (resource : Resource) → ComesNext before moment → HasJustAsked before owner resource
     → waits_in (world_of shape file (moment ∷ before)).locks owner resource ≡ true → ⊥
 not_just shape file [] moment owner resource follows just waits = just
 not_just shape file (last ∷ rest) moment owner resource follows just waits =
@@ -63,7 +63,7 @@ module _ (shape : Shape) (file : View) (before : History) (moment : Moment) (x :
   abbrev at : Scene
   at = scene_of shape file before
 
-  -- the owner waited upward before, if it waits now
+  -- The owner waited upward before, if it waits now.
   was : (owner : ℕ) (resource : Resource) → waits_in (world_of shape file (moment ∷ before)).locks owner resource ≡ true → at.world.is_alive owner ≡ true → waits_in at.world.locks owner resource ≡ true
       → WaitsUpward at owner resource
   was owner resource now alive waits = go (h.upward owner resource alive waits) where

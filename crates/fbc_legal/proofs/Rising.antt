@@ -34,7 +34,7 @@ pub upward-stays : (at : Scene) (w : World) (owner : ℕ) → StaysUpward at w o
 upward-stays at w owner s series.Page key may = λ pin pinned. at_most-lower _ _ _ (s.fall pin pinned) (lower-at_most _ _ _ (may pin (s.pins pin pinned)) (s.rise key))
 upward-stays at w owner s _ key may = λ pin. not_true _ _ (s.pins pin) (may pin)
 
--- the header as another owner has it, and the newest one, without an owner's draft
+-- The header as another owner has it, and the newest one, without an owner's draft.
 for-without : (owner actor : ℕ) (kept : Option Page) (draft : Option Draft) → owner == actor ≡ false → page_for owner kept (without actor draft) ≡ page_for owner kept draft
 for-without owner actor kept None other = refl
 for-without owner actor kept (Some draft) other = grind (arith, nat_tests, other)
@@ -48,7 +48,7 @@ module _ (size : ℕ) (page : ℕ) where
     go true = grow page
     go false = at_most-self _
 
-  -- a write of an own draft
+  -- A write of an own draft.
   newest-written : (actor : ℕ) (kept : Option Page) (draft : Option Draft) → is_draft_of actor draft ≡ true → newest_in (page_for actor kept draft) (without actor draft) ≡ newest_in kept draft
   newest-written actor kept None its = absurd cc
   newest-written actor kept (Some draft) its = grind (arith, its)

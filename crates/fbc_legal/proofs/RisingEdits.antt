@@ -8,7 +8,7 @@ use Rattle.fbc_kinds.specs.declared.pages.Page.{Page}
 use Rattle.fbc_kinds.specs.declared.pages.Relation.{Relation}
 use Rattle.fbc_kinds.specs.View.{header_in, relation_of}
 use Rattle.fbc_world.specs.declared.drafts.Draft.{Draft}
-use Rattle.fbc_world.specs.Holdings.{page_resource}
+use Rattle.fbc_levels.specs.Resources.{page_resource}
 use Rattle.fbc_world.specs.PageCell.{drafted, newest_in, page_for}
 use Rattle.fbc_world.specs.World.{World, page_after, with_edit}
 use Rattle.fbc_legal.specs.Guards.{GuardOfEdit}
@@ -24,7 +24,7 @@ use Rattle.fbc_legal.specs.Coherent.{IsCoherent}
 use Rattle.fbc_legal.proofs.Exclusion.{IsOwnDraft, excluded}
 use Rattle.fbc_legal.proofs.Rising.{StaysUpward}
 
--- an owner's edit leaves what others have
+-- An owner's edit leaves what others have.
 for-drafted : (owner actor : ℕ) (kept : Option Page) (draft : Option Draft) (content : Page) → owner == actor ≡ false → IsOwnDraft actor draft
     → page_for owner kept draft ≡ page_for owner kept (drafted actor draft (Some content))
 for-drafted owner actor kept None content other own = grind (arith, nat_tests, other)
@@ -34,7 +34,7 @@ module _ (at : Scene) (owner actor : ℕ) (x : IsCoherent at.world) (held : Pins
   abbrev w : World
   w = at.world
 
-  -- a page that the actor has in EX is none that the owner has pinned
+  -- A page that the actor has in EX is none that the owner has pinned.
   not_pinned : (number pin : ℕ) → HasExclusive at actor number → w.is_pinned owner pin ≡ true → number ≢ pin
   not_pinned number pin exclusive pinned same =
       clash _ (excluded w x actor owner (page_resource number) (λ its. grind (arith, nat_tests, its, other)) exclusive) (rw same (held owner pin pinned).usable)
@@ -52,7 +52,7 @@ module _ (at : Scene) (owner actor : ℕ) (x : IsCoherent at.world) (held : Pins
   names_another (edit.AddPointer relation number) leans pin pinned = not_pinned number pin (pointer number relation (relation_of (newest_at at) relation) leans) pinned
   names_another _ leans pin pinned = tt
 
-  -- after an edit of page 0
+  -- After an edit of page 0.
   module _ (g : GuardOfEdit at actor 0 e) (content : Page) (is : page_after at.shape w actor 0 e ≡ Some content) where
     own : IsOwnDraft actor (w.draft 0)
     own = exclusive-own w x actor 0 g.exclusive

@@ -7,19 +7,21 @@ use Rattle.fbc_world.specs.declared.events.Act.{Act}
 use Rattle.fbc_world.specs.declared.events.Act.TheVariants.{Local, Opened, Reap, Write}
 use Rattle.fbc_world.specs.declared.events.LocalEvent.TheVariants as local
 use Rattle.fbc_world.specs.Frames.{Spares, is_edit_of, is_landing_of, is_purge_of}
-use Rattle.fbc_world.specs.Holdings.{is_draft_of, page_resource}
+use Rattle.fbc_world.specs.Holdings.{is_draft_of}
+use Rattle.fbc_levels.specs.Resources.{page_resource}
 use Rattle.fbc_world.specs.World.{World}
-use Rattle.fbc_legal.specs.Coherent.{IsCoherent, IsDraftHeld, is_usable}
+use Rattle.fbc_legal.specs.Coherent.{IsCoherent, IsDraftHeld}
+use Rattle.fbc_levels.specs.Levels.{is_page_level}
 use Rattle.fbc_legal.specs.Guards.{Guard}
 use Rattle.fbc_legal.specs.Scene.{Scene}
 use Rattle.fbc_legal.proofs.Exclusion.{excluded, same_number}
 
--- who has the draft of a page has the page in EX
+-- Who has the draft of a page has the page in EX.
 drafter_holds : (w : World) (page other : ℕ) (found : Option Draft) → is_draft_of other found ≡ true → IsDraftHeld w page found → w.granted other (page_resource page) ≡ Ex
 drafter_holds w page other None is held = absurd cc
 drafter_holds w page other (Some d) is held = subst (λ o. w.granted o (page_resource page) ≡ Ex) (same_number d.owner other is) held.1
 
--- a draft has one owner
+-- A draft has one owner.
 one_drafter : (found : Option Draft) (owner other : ℕ) → is_draft_of owner found ≡ true → is_draft_of other found ≡ true → owner ≡ other
 one_drafter None owner other is also = absurd cc
 one_drafter (Some d) owner other is also = grind (arith, nat_tests, is, also)
@@ -34,7 +36,7 @@ module _ (at : Scene) (h : IsCoherent at.world) (owner other : ℕ) (apart : own
     go false is = refl
     go true is =
         let mine = subst (λ p. w.granted owner (page_resource p) ≡ Ex) (same_number number page is) exclusive in
-        let out : is_usable (w.granted other (page_resource page)) ≡ false = excluded w h owner other (page_resource page) apart mine in
+        let out : is_page_level (w.granted other (page_resource page)) ≡ false = excluded w h owner other (page_resource page) apart mine in
         let theirs = drafter_holds w page other (w.draft page) drafted (h.drafts page) in
         grind (arith, out, theirs)
 

@@ -8,18 +8,20 @@ use Rattle.fbc_kinds.specs.View.{View}
 use Rattle.fbc_levels.specs.declared.levels.Level.{Level}
 use Rattle.fbc_levels.specs.declared.levels.Level.TheVariants.{Ex, Free, Pr}
 use Rattle.fbc_levels.specs.declared.resources.Resource.{Resource}
-use Rattle.fbc_levels.specs.Levels.{is_compatible}
+use Rattle.fbc_levels.specs.Levels.{is_compatible, is_page_level}
 use Rattle.fbc_levels.specs.LockState.{LockState}
 use Rattle.fbc_world.specs.declared.drafts.Draft.{Draft}
 use Rattle.fbc_world.specs.History.{History}
-use Rattle.fbc_world.specs.Holdings.{is_draft_of, page_resource}
+use Rattle.fbc_world.specs.Holdings.{is_draft_of}
+use Rattle.fbc_levels.specs.Resources.{page_resource}
 use Rattle.fbc_world.specs.Locks.{waiting, waiting_of}
 use Rattle.fbc_world.specs.Owners.{granted, is_alive}
 use Rattle.fbc_world.specs.PageCell.{copy_of, draft, draft_owner, newest}
 use Rattle.fbc_world.specs.World.{World, IsPairIn, newest_of, world_of}
-use Rattle.fbc_world.specs.WriteOrder.{IsPair, StandsBefore, pairs_of}
+use Rattle.fbc_world.specs.WriteOrder.{IsPair, pairs_of}
+use Rattle.fbc_kinds.specs.Order.{StandsBefore}
 use Rattle.fbc_world.proofs.WorldLaws.{IsReplayed, IsReplayed-world, newest-world}
-use Rattle.fbc_legal.specs.Coherent.{IsCoherent, IsCopyHeld, IsDraftHeld, IsNewest, is_usable}
+use Rattle.fbc_legal.specs.Coherent.{IsCoherent, IsCopyHeld, IsDraftHeld, IsNewest}
 use Rattle.fbc_legal.specs.Legal.{IsLegal}
 use Rattle.fbc_legal.proofs.Induction.{IsCoherent-legal, requests_true}
 use Rattle.fbc_legal.proofs.Exclusion.{excluded, no_other_copy, waits_bare}
@@ -35,12 +37,12 @@ newest_is : (copy shown : Option Page) (content : Page) → copy ≡ Some conten
 newest_is None shown content is held = absurd cc
 newest_is (Some c) shown content is held = grind (arith, is, held)
 
-pub in_use : (level : Level) → is_usable level ≡ true → (level ≡ Pr) ⊎ (level ≡ Ex)
+pub in_use : (level : Level) → is_page_level level ≡ true → (level ≡ Pr) ⊎ (level ≡ Ex)
 in_use Pr is = inl refl
 in_use Ex is = inr refl
 in_use _ is = absurd cc
 
-not_in_use : (level : Level) → is_usable level ≡ false → (level ≡ Pr) ⊎ (level ≡ Ex) → ⊥
+not_in_use : (level : Level) → is_page_level level ≡ false → (level ≡ Pr) ⊎ (level ≡ Ex) → ⊥
 not_in_use level is (inl e) = grind (arith, is, e)
 not_in_use level is (inr e) = grind (arith, is, e)
 

@@ -36,7 +36,7 @@ module _ (at : Scene) (x : IsCoherent at.world) (pins : PinsAreHeld at.world) (g
   abbrev IsUpwardIn : World → Type 0
   IsUpwardIn after = WaitsUpward (scene_in at after) owner resource
 
-  -- the owner waits upward, if it lives and waits
+  -- The owner waits upward, if it lives and waits.
   abbrev Was : Type 0
   Was = w.is_alive owner ≡ true → waits_in w.locks owner resource ≡ true → WaitsUpward at owner resource
 
@@ -55,14 +55,14 @@ module _ (at : Scene) (x : IsCoherent at.world) (pins : PinsAreHeld at.world) (g
   unpin : (page : ℕ) → WaitsUpward at owner resource → IsUpwardIn (pinned w actor page false)
   unpin page = upward-to (pinned w actor page false) (record { pins = λ q is. grind (arith, is); fall = λ q is. at_most-self _; rise = λ q. at_most-self _ })
 
-  -- who comes does not wait
+  -- Who comes does not wait.
   enter : (name : ℕ) → GuardOfEnter at actor name → Was → (if owner == actor then true else w.is_alive owner) ≡ true → waits_in w.locks owner resource ≡ true → WaitsUpward at owner resource
   enter name g was alive waits = go (owner == actor) refl alive where
     go : (b : Bool) → owner == actor ≡ b → (if b then true else w.is_alive owner) ≡ true → WaitsUpward at owner resource
     go true its is = absurd (grind (arith, nat_tests, its, g.next, came.waiting owner resource waits))
     go false other is = was is waits
 
-  -- nobody asks in an act of another kind
+  -- Nobody asks in an act of another kind.
   old : (waits_in w.locks owner resource ≡ true) ⊎ ⊥ → waits_in w.locks owner resource ≡ true
   old (inl waits) = waits
   old (inr asks) = absurd asks

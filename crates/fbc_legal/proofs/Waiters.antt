@@ -38,7 +38,7 @@ module _ (owner : ℕ) (resource : Resource) where
   pub waits_free : (s : LockState) → wait_of s owner ≡ None → waits_in s owner resource ≡ false
   waits_free s free = none_any (is_wait_of owner) (waits_by owner resource) (λ x is. grind (arith, is)) s.requests free
 
-  -- a new request waits for nothing
+  -- A new request waits for nothing.
   entered_waits : (rs : List Request) (o : ℕ) (r : Resource) (word : ℕ) → list_any (waits_by owner resource) (entered rs o r word) ≡ list_any (waits_by owner resource) rs
   entered_waits rs o r word = go (is_some (find (is_of o r) rs)) where
     added : list_any (waits_by owner resource) (rs ++ new_request o r word ∷ []) ≡ list_any (waits_by owner resource) rs
@@ -50,7 +50,7 @@ module _ (owner : ℕ) (resource : Resource) where
     go true = refl
     go false = added
 
-  -- changes after which nobody waits who did not
+  -- Changes after which nobody waits who did not.
   abbrev Waited : List Request → List Request → Type 0
   Waited after before = list_any (waits_by owner resource) after ≡ true → list_any (waits_by owner resource) before ≡ true
 
@@ -64,7 +64,7 @@ module _ (owner : ℕ) (resource : Resource) where
       → Waited (map f (entered rs o r word)) rs
   waited_entered f from rs o r word is = rw (entered_waits rs o r word) at (waited_map f from (entered rs o r word) is)
 
-  -- an ask that waits
+  -- An ask that waits.
   pub waits_queued : (rs : List Request) (o : ℕ) (r : Resource) (level : Level) (word : ℕ) → list_any (waits_by owner resource) (map (with_waiting o r level) (entered rs o r word)) ≡ true
       → (list_any (waits_by owner resource) rs ≡ true) ⊎ ((o ≡ owner) × (r ≡ resource))
   waits_queued rs o r level word is = go (o == owner) refl (is_same_resource r resource) refl where
@@ -76,7 +76,7 @@ module _ (owner : ℕ) (resource : Resource) where
     go false other b same = inl (waited_entered (with_waiting o r level) (λ x. none x (grind (arith, other))) rs o r word is)
     go true its false other = inl (waited_entered (with_waiting o r level) (λ x. none x (grind (arith, its, other))) rs o r word is)
 
-  -- a grant: who waits then waited before, for something else
+  -- A grant: who waits then waited before, for something else.
   pub waited_grant : (rs : List Request) (o : ℕ) (r : Resource) (level : Level) → Waited (map (with_grant o r level) (entered rs o r 0)) rs
   waited_grant rs o r level = waited_entered (with_grant o r level) (λ x is. grind (arith, is)) rs o r 0
 
@@ -90,7 +90,7 @@ module _ (owner : ℕ) (resource : Resource) where
   waited_lower s o r Free is = waited_filter (λ x. not (is_of o r x)) s.requests is
   waited_lower s o r _ is = waited_entered (with_granted o r _) (λ x waits. waits) s.requests o r 0 is
 
-  -- a withdrawal
+  -- A withdrawal.
   pub waited_withdrawn : (s : LockState) (o : ℕ) → waits_in (withdrawn s o) owner resource ≡ true → waits_in s owner resource ≡ true
   waited_withdrawn s o is =
       waited_filter (λ x. not (is_bare_wait_of o x)) s.requests

@@ -1,8 +1,7 @@
 -- Who waits for a page has no level on it yet, after each event.
-use Rattle.std.proofs.Common.{◌≡◌, ◌∙◌, ap, ℕ, Bool, true, false, not, ◌==◌, ◌&&◌, if◌then◌else◌, List, map, Option, Some, None, is_some, refl, arith}
+use Rattle.std.proofs.Common.{◌≡◌, ℕ, Bool, true, false, not, ◌==◌, ◌&&◌, if◌then◌else◌, List, map, Some, None, is_some, refl, arith}
 use Rattle.std.specs.List.{AllPairs, filter, find}
-use Rattle.std.specs.Option.{option_and_then, option_map, option_map_or, option_or}
-use Rattle.std.proofs.lemmas.Bool.Decides.{nat_tests}
+use Rattle.std.specs.Option.{option_or}
 use Rattle.fbc_levels.specs.declared.levels.Level.{Level}
 use Rattle.fbc_levels.specs.declared.levels.Level.TheVariants.{Free}
 use Rattle.fbc_levels.specs.declared.resources.Request.{Request}
@@ -10,7 +9,7 @@ use Rattle.fbc_levels.specs.declared.resources.Resource.{Resource}
 use Rattle.fbc_levels.specs.declared.resources.Series.{Series}
 use Rattle.fbc_levels.specs.declared.resources.Series.TheVariants as series
 use Rattle.fbc_levels.specs.Levels.{is_free, join}
-use Rattle.fbc_levels.specs.Resources.{is_same_resource}
+use Rattle.fbc_levels.specs.Resources.{is_same_resource, page_resource}
 use Rattle.fbc_levels.specs.LockState.{LockState, granted_of, is_of}
 use Rattle.fbc_lock_table.specs.declared.answers.Asked.{Asked}
 use Rattle.fbc_lock_table.specs.declared.answers.Asked.TheVariants.{Granted, Queued}
@@ -21,69 +20,15 @@ use Rattle.fbc_owner_queues.specs.Circles.{circle_from}
 use Rattle.fbc_world.specs.declared.events.Act.{Act}
 use Rattle.fbc_world.specs.declared.events.Act.TheVariants.{Ask, Die, Grant, Lower, Opened, Reap, Withdraw, Write, Local}
 use Rattle.fbc_world.specs.declared.events.LocalEvent.TheVariants as local
-use Rattle.fbc_world.specs.Holdings.{page_resource}
 use Rattle.fbc_world.specs.Locks.{asked, lowered_to, unless_circle, with_grant}
 use Rattle.fbc_world.specs.World.{acted}
 use Rattle.fbc_world.proofs.Apart.{IsApart, apart_queued, once}
-use Rattle.fbc_world.proofs.Found.{find_filter-once, find_map, find_passes}
-use Rattle.fbc_world.proofs.Requests.{find_entered, is_key, level_in, same_key}
+use Rattle.fbc_world.proofs.Requests.{is_key}
 use Rattle.fbc_legal.specs.Coherent.{IsCoherent, WaitsAreBare, is_raise}
 use Rattle.fbc_legal.specs.Guards.{Guard, GuardOfSeries}
 use Rattle.fbc_legal.specs.Scene.{Scene}
+use Rattle.fbc_legal.proofs.BareWaits.{IsBare, bare_filter, bare_map, bare_set, level_found}
 use Rattle.fbc_legal.proofs.Exclusion.{AreRequestsTrue, both_of, is_plain, same_number}
-
--- the request waits, and has a level
-abbrev raises : Option Request → Bool
-raises found = option_map_or is_raise found false
-
-own_new : (o : ℕ) (r : Resource) (word : ℕ) → is_of o r (new_request o r word) ≡ true
-own_new o r word = grind (arith, nat_tests)
-
--- what is found, or else a new request, has the level that is found
-level_found : (found : Option Request) (o : ℕ) (r : Resource) (word : ℕ) (x : Request) → option_or found (Some (new_request o r word)) ≡ Some x → level_in found ≡ x.granted
-level_found None o r word x is = cc
-level_found (Some y) o r word x is = cc
-
--- the owner's request for the resource does not wait with a level
-abbrev IsBare : ℕ → Resource → List Request → Type 0
-IsBare owner resource requests = raises (find (is_of owner resource) requests) ≡ false
-
-module _ (owner : ℕ) (resource : Resource) where
-  -- a change after which a request waits with a level only where it did
-  bare_map : (f : Request → Request) → ((x : Request) → is_of owner resource (f x) ≡ is_of owner resource x) → ((x : Request) → is_raise x ≡ false → is_raise (f x) ≡ false)
-      → (rs : List Request) → IsBare owner resource rs → IsBare owner resource (map f rs)
-  bare_map f same keeps rs bare = ap raises (find_map (is_of owner resource) f same rs) ∙ go (find (is_of owner resource) rs) bare where
-    go : (found : Option Request) → raises found ≡ false → raises (option_map f found) ≡ false
-    go None is = refl
-    go (Some x) is = keeps x is
-
-  -- a change of one request, entered where there was none
-  bare_set : (o : ℕ) (r : Resource) (word : ℕ) (f : Request → Request) → ((x : Request) → is_of owner resource (f x) ≡ is_of owner resource x)
-      → ((x : Request) → is_of o r x ≡ false → is_raise x ≡ false → is_raise (f x) ≡ false)
-      → (rs : List Request)
-      → (is_key o r owner resource ≡ true → (x : Request) → is_of o r x ≡ true → option_or (find (is_of owner resource) rs) (Some (new_request o r word)) ≡ Some x → is_raise x ≡ false → is_raise (f x) ≡ false)
-      → IsBare owner resource rs → IsBare owner resource (map f (entered rs o r word))
-  bare_set o r word f same keeps rs own bare =
-      ap raises (find_map (is_of owner resource) f same (entered rs o r word)) ∙ ap (λ found. raises (option_map f found)) (find_entered owner resource rs o r word)
-      ∙ go (find (is_of owner resource) rs) refl (is_key o r owner resource) refl own bare where
-        go : (found : Option Request) → find (is_of owner resource) rs ≡ found → (b : Bool) → is_key o r owner resource ≡ b
-            → (b ≡ true → (x : Request) → is_of o r x ≡ true → option_or found (Some (new_request o r word)) ≡ Some x → is_raise x ≡ false → is_raise (f x) ≡ false)
-            → raises found ≡ false → raises (option_map f (option_or found (if b then Some (new_request o r word) else None))) ≡ false
-        go None is true key mine was = mine refl (new_request o r word) (own_new o r word) refl refl
-        go None is false key mine was = refl
-        go (Some x) is true key mine was = mine refl x (same_key owner resource o r x (find_passes (is_of owner resource) rs x is) ∙ key) refl was
-        go (Some x) is false key mine was = keeps x (same_key owner resource o r x (find_passes (is_of owner resource) rs x is) ∙ key) was
-
-  -- some requests are taken out
-  bare_filter : (q : Request → Bool) (rs : List Request) → AllPairs (λ x y. is_of owner resource x ≡ true → is_of owner resource y ≡ true → ⊥) rs → IsBare owner resource rs → IsBare owner resource (filter q rs)
-  bare_filter q rs apart bare = ap raises (find_filter-once (is_of owner resource) q rs apart) ∙ go (find (is_of owner resource) rs) bare where
-    keep : (x : Request) (b : Bool) → is_raise x ≡ false → raises (if b then Some x else None) ≡ false
-    keep x true is = is
-    keep x false is = refl
-
-    go : (found : Option Request) → raises found ≡ false → raises (option_and_then (λ x. if q x then Some x else None) found) ≡ false
-    go None is = refl
-    go (Some x) is = keep x (q x) is
 
 module _ (at : Scene) (h : IsCoherent at.world) (t : AreRequestsTrue at.world) (owner : ℕ) (landed : Bool) where
   abbrev s : LockState
@@ -96,7 +41,7 @@ module _ (at : Scene) (h : IsCoherent at.world) (t : AreRequestsTrue at.world) (
     apart : AllPairs (λ x y. is_of other resource x ≡ true → is_of other resource y ≡ true → ⊥) s.requests
     apart = once other resource s.requests t.apart
 
-    -- who asks for a page has no request for it
+    -- Who asks for a page has no request for it.
     none_found : (kind : Series) (key : ℕ) (level : Level) (word : ℕ) → GuardOfSeries at owner kind key level word → is_key owner (record { series = kind; key = key }) other resource ≡ true
         → find (is_of other resource) s.requests ≡ None
     none_found series.Page key level word g is =
@@ -104,34 +49,34 @@ module _ (at : Scene) (h : IsCoherent at.world) (t : AreRequestsTrue at.world) (
         rw (← same_number owner other keys.0, ← same_number key page keys.1) g.fresh
     none_found _ key level word g is = absurd (grind (arith, is))
 
-    queued : (r : Resource) (level : Level) (word : ℕ) → GuardOfSeries at owner r.series r.key level word → IsBare other resource (after_ask s owner r level word Queued).requests
+    queued : (r : Resource) (level : Level) (word : ℕ) → GuardOfSeries at owner r.series r.key level word → IsBare is_raise other resource (after_ask s owner r level word Queued).requests
     queued r level word g =
-        bare_set other resource owner r word (with_waiting owner r level) (λ x. refl) (λ x not_it bare. grind (arith, not_it, bare)) s.requests own (h.bare other page) where
+        bare_set is_raise other resource owner r word (with_waiting owner r level) (λ x. refl) (λ x not_it bare. grind (arith, not_it, bare)) s.requests own refl (h.bare other page) where
           own : is_key owner r other resource ≡ true → (x : Request) → is_of owner r x ≡ true → option_or (find (is_of other resource) s.requests) (Some (new_request owner r word)) ≡ Some x
               → is_raise x ≡ false → is_raise (with_waiting owner r level x) ≡ false
           own key x it is bare = grind (arith, is, none_found r.series r.key level word g key)
 
-    -- a withdrawal takes waits away
-    withdraw : (o : ℕ) (rs : List Request) → AllPairs (λ x y. is_of other resource x ≡ true → is_of other resource y ≡ true → ⊥) rs → IsBare other resource rs
-        → IsBare other resource (map (without_wait o) (filter (λ x. not (is_bare_wait_of o x)) rs))
+    -- A withdrawal takes waits away.
+    withdraw : (o : ℕ) (rs : List Request) → AllPairs (λ x y. is_of other resource x ≡ true → is_of other resource y ≡ true → ⊥) rs → IsBare is_raise other resource rs
+        → IsBare is_raise other resource (map (without_wait o) (filter (λ x. not (is_bare_wait_of o x)) rs))
     withdraw o rs only bare =
-        bare_map other resource (without_wait o) (λ x. refl) (λ x is. grind (arith, is)) (filter (λ x. not (is_bare_wait_of o x)) rs) (bare_filter other resource (λ x. not (is_bare_wait_of o x)) rs only bare)
+        bare_map is_raise other resource (without_wait o) (λ x. refl) (λ x is. grind (arith, is)) (filter (λ x. not (is_bare_wait_of o x)) rs) (bare_filter is_raise other resource (λ x. not (is_bare_wait_of o x)) rs only bare)
 
-    unless : (a : LockState) → IsApart a → IsBare other resource a.requests → IsBare other resource (unless_circle a owner).requests
+    unless : (a : LockState) → IsApart a → IsBare is_raise other resource a.requests → IsBare is_raise other resource (unless_circle a owner).requests
     unless a only bare = go (is_some (circle_from a owner)) where
-      go : (b : Bool) → IsBare other resource (if b then withdrawn a owner else a).requests
+      go : (b : Bool) → IsBare is_raise other resource (if b then withdrawn a owner else a).requests
       go true = withdraw owner a.requests (once other resource a.requests only) bare
       go false = bare
 
-    ask : (r : Resource) (level : Level) (word : ℕ) (answer : Asked) → GuardOfSeries at owner r.series r.key level word → IsBare other resource (asked s owner r level word answer).requests
+    ask : (r : Resource) (level : Level) (word : ℕ) (answer : Asked) → GuardOfSeries at owner r.series r.key level word → IsBare is_raise other resource (asked s owner r level word answer).requests
     ask r level word Granted g = queued r level word g
     ask r level word Queued g = unless (after_ask s owner r level word Queued) (apart_queued s owner r level word t.apart) (queued r level word g)
     ask r level word _ g = h.bare other page
 
-    -- a level is lowered where there is one; who has one waits for nothing
-    set_lower : (r : Resource) (level : Level) → join (at.world.granted owner r) level ≡ at.world.granted owner r → IsBare other resource (map (with_granted owner r level) (entered s.requests owner r 0))
+    -- A level is lowered where there is one; who has one waits for nothing.
+    set_lower : (r : Resource) (level : Level) → join (at.world.granted owner r) level ≡ at.world.granted owner r → IsBare is_raise other resource (map (with_granted owner r level) (entered s.requests owner r 0))
     set_lower r level part =
-        bare_set other resource owner r 0 (with_granted owner r level) (λ x. refl) (λ x not_it bare. grind (arith, not_it, bare)) s.requests own (h.bare other page) where
+        bare_set is_raise other resource owner r 0 (with_granted owner r level) (λ x. refl) (λ x not_it bare. grind (arith, not_it, bare)) s.requests own refl (h.bare other page) where
           given : is_key owner r other resource ≡ true → join (granted_of s other resource) level ≡ granted_of s other resource
           given key =
               let keys = both_of (owner == other) (is_same_resource r resource) key in
@@ -146,19 +91,19 @@ module _ (at : Scene) (h : IsCoherent at.world) (t : AreRequestsTrue at.world) (
               let less = lower x (granted_of s other resource) (given key) (level_found (find (is_of other resource) s.requests) owner r 0 x is) bare in
               grind (arith, it, less)
 
-    lowered : (r : Resource) (level : Level) → join (at.world.granted owner r) level ≡ at.world.granted owner r → IsBare other resource (lowered_to s owner r level).requests
-    lowered r Free part = bare_filter other resource (λ x. not (is_of owner r x)) s.requests apart (h.bare other page)
+    lowered : (r : Resource) (level : Level) → join (at.world.granted owner r) level ≡ at.world.granted owner r → IsBare is_raise other resource (lowered_to s owner r level).requests
+    lowered r Free part = bare_filter is_raise other resource (λ x. not (is_of owner r x)) s.requests apart (h.bare other page)
     lowered r _ part = set_lower r _ part
 
   pub bare-acted : (act : Act) → Guard at owner act → is_plain act ≡ true → WaitsAreBare (acted at.shape at.world owner act landed)
   bare-acted (Opened locks) g plain = λ other page. refl
   bare-acted (Ask r level wait word) g plain = λ other page. ask other page r level word (answer_to_ask s owner r level wait) g.asked
   bare-acted (Grant r level) g plain = λ other page.
-      bare_set other (page_resource page) owner r 0 (with_grant owner r level) (λ x. refl) (λ x not_it bare. grind (arith, not_it, bare)) s.requests (λ key x it is bare. grind (arith, it)) (h.bare other page)
+      bare_set is_raise other (page_resource page) owner r 0 (with_grant owner r level) (λ x. refl) (λ x not_it bare. grind (arith, not_it, bare)) s.requests (λ key x it is bare. grind (arith, it)) refl (h.bare other page)
   bare-acted Withdraw g plain = λ other page. withdraw other page owner s.requests (apart other page) (h.bare other page)
   bare-acted (Lower r level) g plain = λ other page. lowered other page r level g.part
-  bare-acted (Reap dead by) g plain = λ other page. bare_filter other (page_resource page) (λ x. not (x.owner == dead)) s.requests (apart other page) (h.bare other page)
-  bare-acted Die g plain = λ other page. bare_map other (page_resource page) (of_dead owner) (λ x. refl) (λ x is. is) s.requests (h.bare other page)
+  bare-acted (Reap dead by) g plain = λ other page. bare_filter is_raise other (page_resource page) (λ x. not (x.owner == dead)) s.requests (apart other page) (h.bare other page)
+  bare-acted Die g plain = λ other page. bare_map is_raise other (page_resource page) (of_dead owner) (λ x. refl) (λ x is. is) s.requests (h.bare other page)
   bare-acted (Write page reason true) g plain = absurd cc
   bare-acted (Write page reason false) g plain = h.bare
   bare-acted (Local (local.Edit page edit)) g plain = h.bare

@@ -7,7 +7,7 @@ use Rattle.fbc_levels.specs.declared.levels.Level.TheVariants.{Ex, Pr}
 use Rattle.fbc_levels.specs.declared.resources.Resource.{Resource}
 use Rattle.fbc_levels.specs.LockState.{IsBlocked, LockState}
 use Rattle.fbc_world.specs.History.{History}
-use Rattle.fbc_world.specs.Holdings.{page_resource}
+use Rattle.fbc_levels.specs.Resources.{page_resource}
 use Rattle.fbc_world.specs.Locks.{locks_of, waiting}
 use Rattle.fbc_world.specs.Owners.{granted, is_alive}
 use Rattle.fbc_world.specs.World.{World, world_of}

@@ -11,7 +11,8 @@ use Rattle.fbc_world.specs.declared.asks.Cause.{Cause}
 use Rattle.fbc_world.specs.declared.asks.Cause.TheVariants as cause
 use Rattle.fbc_world.specs.declared.events.Act.TheVariants.{Poll}
 use Rattle.fbc_world.specs.History.{History, Moment}
-use Rattle.fbc_world.specs.Holdings.{holdings_of, page_resource}
+use Rattle.fbc_world.specs.Holdings.{holdings_of}
+use Rattle.fbc_levels.specs.Resources.{page_resource}
 use Rattle.fbc_world.specs.Locks.{locks_of}
 use Rattle.fbc_world.specs.PageCell.{page_for}
 use Rattle.fbc_legal.specs.Scene.{Scene, HasExclusive, IsBefore}

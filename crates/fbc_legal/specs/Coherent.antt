@@ -2,22 +2,16 @@
 use Rattle.std.specs.Prelude.{◌≡◌, ◌≢◌, ◌&&◌, ℕ, Bool, true, false, not, Option, Some, None, is_some}
 use Rattle.std.specs.Option.{option_map_or}
 use Rattle.fbc_kinds.specs.declared.pages.Page.{Page}
-use Rattle.fbc_levels.specs.declared.levels.Level.{Level}
-use Rattle.fbc_levels.specs.declared.levels.Level.TheVariants.{Ex, Pr}
+use Rattle.fbc_levels.specs.declared.levels.Level.TheVariants.{Ex}
 use Rattle.fbc_levels.specs.declared.resources.Request.{Request}
 use Rattle.fbc_levels.specs.declared.resources.Resource.{Resource}
-use Rattle.fbc_levels.specs.Levels.{is_compatible, is_free}
+use Rattle.fbc_levels.specs.Levels.{is_compatible, is_free, is_page_level}
 use Rattle.fbc_levels.specs.LockState.{request_of}
 use Rattle.fbc_world.specs.declared.drafts.Draft.{Draft}
-use Rattle.fbc_world.specs.Holdings.{is_draft_of, page_resource}
+use Rattle.fbc_world.specs.Holdings.{is_draft_of}
+use Rattle.fbc_levels.specs.Resources.{page_resource}
 use Rattle.fbc_world.specs.World.{World, IsPairIn, newest_of}
-use Rattle.fbc_world.specs.WriteOrder.{StandsBefore}
-
--- Whether a page may be used in this level.
-abbrev pub is_usable : Level → Bool
-is_usable Pr = true
-is_usable Ex = true
-is_usable _ = false
+use Rattle.fbc_kinds.specs.Order.{StandsBefore}
 
 -- Levels of different owners on one resource go beside each other.
 abbrev pub LevelsGoBeside : World → Type 0
@@ -34,7 +28,7 @@ WaitsAreBare w = (owner page : ℕ) → option_map_or is_raise (request_of w.loc
 -- Who has a copy is alive, and may use the page.
 abbrev pub IsCopyHeld : World → ℕ → ℕ → Option Page → Type 0
 IsCopyHeld w owner page None = Unit {0}
-IsCopyHeld w owner page (Some content) = (w.is_alive owner ≡ true) × (is_usable (w.granted owner (page_resource page)) ≡ true)
+IsCopyHeld w owner page (Some content) = (w.is_alive owner ≡ true) × (is_page_level (w.granted owner (page_resource page)) ≡ true)
 
 abbrev pub CopiesAreHeld : World → Type 0
 CopiesAreHeld w = (owner page : ℕ) → IsCopyHeld w owner page (w.copy owner page)

@@ -25,7 +25,8 @@ use Rattle.fbc_world.specs.declared.asks.Cause.{Cause}
 use Rattle.fbc_world.specs.declared.events.Act.{Act}
 use Rattle.fbc_world.specs.declared.events.Act.TheVariants as act
 use Rattle.fbc_world.specs.declared.events.LocalEvent.TheVariants as local
-use Rattle.fbc_world.specs.Holdings.{holdings_of, page_resource}
+use Rattle.fbc_world.specs.Holdings.{holdings_of}
+use Rattle.fbc_levels.specs.Resources.{page_resource}
 use Rattle.fbc_world.specs.Locks.{waiting_of}
 use Rattle.fbc_world.specs.World.{is_begin, page_after}
 use Rattle.fbc_legal.specs.Causes.{MeetsCause, MeetsLowering}

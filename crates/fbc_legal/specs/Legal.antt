@@ -25,19 +25,19 @@ pub record IsGrantOf (owner : ℕ) (resource : Resource) (level : Level) (moment
   pub act : moment.event.act ≡ act.Grant resource level
 
 -- An ask in whose way nobody stands is granted at once.
-abbrev pub FollowsAct : History → ℕ → Act → Moment → Type 0
-FollowsAct before owner (act.Ask resource level wait word) moment =
+abbrev pub ComesNextAfter : History → ℕ → Act → Moment → Type 0
+ComesNextAfter before owner (act.Ask resource level wait word) moment =
     answer_to_ask (locks_of before) owner resource level wait ≡ Granted → IsGrantOf owner resource level moment
-FollowsAct before owner _ moment = Unit {0}
+ComesNextAfter before owner _ moment = Unit {0}
 
-abbrev pub Follows : History → Moment → Type 0
-Follows [] moment = Unit {0}
-Follows (last ∷ before) moment = FollowsAct before last.event.actor last.event.act moment
+abbrev pub ComesNext : History → Moment → Type 0
+ComesNext [] moment = Unit {0}
+ComesNext (last ∷ before) moment = ComesNextAfter before last.event.actor last.event.act moment
 
 -- An event may happen after what was before.
 pub record MayHappen (at : Scene) (moment : Moment) : Type 0 where
   pub alive : MayAct at moment.event.actor moment.event.act
-  pub follows : Follows at.past moment
+  pub follows : ComesNext at.past moment
   pub guard : Guard at moment.event.actor moment.event.act
 
 -- A history over a file is legal where each of its events may happen at its place.

@@ -5,6 +5,7 @@ pub mod Traces
 pub mod Marks
 pub mod Facts
 pub mod Leans
+pub mod HeldRows
 pub mod Naming
 pub mod Rows
 pub mod Ranks

@@ -14,7 +14,7 @@ use Rattle.fbc_kinds.specs.Machine.{is_held}
 use Rattle.fbc_kinds.specs.Reach.{ReachesCell}
 use Rattle.fbc_kinds.specs.View.{cell_at, inventory_of, is_back, is_committed_state, is_empty, is_top, mark_in, next_of, slot_in}
 use Rattle.fbc_levels.specs.declared.levels.Level.TheVariants.{Sr}
-use Rattle.fbc_views.specs.Facing.{IsLinked}
+use Rattle.fbc_page_edits.specs.Facing.{IsLinked, NameTheSame}
 use Rattle.fbc_legal.specs.Scene.{Scene, HasDraft, HasExclusive, born_at, meant_at, newest_at, number_resource}
 use Rattle.fbc_legal.specs.Traces.{IsMovedBy, IsTakenBy, IsUnnamedBy}
 
@@ -37,11 +37,6 @@ as_primary version = record version { flag = flag.Primary }
 abbrev pub without_link : Cell → Cell
 without_link version = record version { back_page = 0; back_cell = 0 }
 
--- Both name the same back version, or none.
-pub record HaveOneLink (old new : Cell) : Type 0 where
-  pub page : new.back_page ≡ old.back_page
-  pub cell : new.back_cell ≡ old.back_cell
-
 -- A change over an empty cell: a value of the open number, without a back version.
 pub record IsFirstVersion (at : Scene) (owner page cell : ℕ) (content : Cell) : Type 0 where
   pub t : Transaction
@@ -63,10 +58,10 @@ pub record IsOwnChange (at : Scene) (owner page cell : ℕ) (content : Cell) : T
   pub over_own : old.number ≡ t.number
   pub top : is_top content.flag ≡ true
   pub own : content.number ≡ t.number
-  pub link : HaveOneLink old content
+  pub link : NameTheSame old content
 
 -- A change over a value that the owner's snapshot holds: it names that value as its back version, where the owner has
--- moved it.
+-- moved it. If that value has a link, the moved one means the same by it.
 pub record IsNewVersion (at : Scene) (owner page cell : ℕ) (content : Cell) : Type 0 where
   pub t : Transaction
   pub old : Cell
@@ -79,7 +74,7 @@ pub record IsNewVersion (at : Scene) (owner page cell : ℕ) (content : Cell) : 
   pub own : content.number ≡ t.number
   pub moved : IsMovedBy at.shape at.file owner content.back_page content.back_cell (born_at at content.back_page content.back_cell) at.past
   pub back : Stands at content.back_page content.back_cell (as_back old)
-  pub same_meant : meant_at at content.back_page content.back_cell ≡ meant_at at page cell
+  pub same_meant : old.back_page ≢ 0 → meant_at at content.back_page content.back_cell ≡ meant_at at page cell
 
 -- A move: a top version of a page that the owner has in EX, as a back value in an empty cell.
 pub record IsMove (at : Scene) (owner page cell : ℕ) (content : Cell) : Type 0 where

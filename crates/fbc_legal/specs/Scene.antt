@@ -5,10 +5,11 @@ use Rattle.fbc_kinds.specs.View.{View}
 use Rattle.fbc_levels.specs.declared.levels.Level.TheVariants.{Ex}
 use Rattle.fbc_levels.specs.declared.resources.Resource.{Resource}
 use Rattle.fbc_levels.specs.declared.resources.Series.TheVariants as series
-use Rattle.fbc_world.specs.Holdings.{is_draft_of, page_resource}
+use Rattle.fbc_world.specs.Holdings.{is_draft_of}
+use Rattle.fbc_levels.specs.Resources.{page_resource}
 use Rattle.fbc_world.specs.History.{History}
 use Rattle.fbc_world.specs.World.{World, IsPairIn, newest_of, world_of}
-use Rattle.fbc_world.specs.WriteOrder.{StandsBefore}
+use Rattle.fbc_kinds.specs.Order.{StandsBefore}
 use Rattle.fbc_legal.specs.Stamps.{PageStamps, born_in_newest, meant_in_newest, stamps_of}
 
 pub record Scene : Type 0 where

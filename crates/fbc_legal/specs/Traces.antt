@@ -7,7 +7,7 @@ use Rattle.fbc_kinds.specs.declared.pages.Cell.{Cell}
 use Rattle.fbc_kinds.specs.declared.shapes.Shape.{Shape}
 use Rattle.fbc_kinds.specs.Limits.{inventory_bits}
 use Rattle.fbc_kinds.specs.View.{View, data_of, inventory_page, is_back, pointer_of, tip_of}
-use Rattle.fbc_views.specs.Facing.{IsLinked}
+use Rattle.fbc_page_edits.specs.Facing.{IsLinked}
 use Rattle.fbc_world.specs.declared.events.Act.TheVariants.{Local}
 use Rattle.fbc_world.specs.declared.events.LocalEvent.TheVariants as local
 use Rattle.fbc_world.specs.History.{History, Moment}

@@ -12,12 +12,13 @@ ghost use Rattle.fbc_levels.specs.declared.levels.Level.{Level};
 ghost use Rattle.fbc_levels.specs.declared.levels.Level.TheVariants as level;
 ghost use Rattle.fbc_levels.specs.declared.resources.Resource.{Resource};
 ghost use Rattle.fbc_world.specs.History.{History};
-ghost use Rattle.fbc_world.specs.Holdings.{page_resource};
+ghost use Rattle.fbc_levels.specs.Resources.{page_resource};
 ghost use Rattle.fbc_world.specs.Locks.{waiting};
 ghost use Rattle.fbc_world.specs.Owners.{granted, is_alive};
 ghost use Rattle.fbc_world.specs.PageCell.{copy_of, draft, draft_owner, newest};
 ghost use Rattle.fbc_world.specs.World.{world_of};
-ghost use Rattle.fbc_world.specs.WriteOrder.{IsPair, StandsBefore, pairs_of};
+ghost use Rattle.fbc_world.specs.WriteOrder.{IsPair, pairs_of};
+ghost use Rattle.fbc_kinds.specs.Order.{StandsBefore};
 ghost use Rattle.fbc_world.specs.declared.drafts.Draft.{Draft};
 
 /// All of the laws below at once, of what stands after the history as one record.

@@ -2,15 +2,18 @@
 
 ghost use Rattle.std.specs.Prelude.{◌≡◌, ◌≢◌, ◌∷◌, ℕ, Bool, Some, true};
 ghost use Rattle.std.specs.Option.{IsSomeAnd};
-ghost use Rattle.fbc_kinds.specs.View.{View, cell_in, is_back, pointer_of};
+ghost use Rattle.fbc_kinds.specs.View.{View, cell_at, cell_in, is_back, pointer_of};
 ghost use Rattle.fbc_kinds.specs.declared.edits.Edit.TheVariants.{FreePage, PutCell};
 ghost use Rattle.fbc_kinds.specs.declared.pages.Cell.{Cell};
 ghost use Rattle.fbc_kinds.specs.declared.shapes.Shape.{Shape};
 ghost use Rattle.fbc_legal.specs.Facts.{Names};
+ghost use Rattle.fbc_legal.specs.HeldRows.{IsBelowHeldRow};
 ghost use Rattle.fbc_legal.specs.Legal.{IsLegal};
+ghost use Rattle.fbc_legal.specs.Stamps.{takes_link};
 ghost use Rattle.fbc_world.specs.History.{History, Moment, happens};
 ghost use Rattle.fbc_world.specs.PageCell.{draft, draft_owner, kept, newest};
-ghost use Rattle.fbc_world.specs.WriteOrder.{IsPair, StandsBefore};
+ghost use Rattle.fbc_world.specs.WriteOrder.{IsPair};
+ghost use Rattle.fbc_kinds.specs.Order.{StandsBefore};
 ghost use Rattle.fbc_world.specs.declared.asks.Cause.{Cause};
 ghost use Rattle.fbc_world.specs.declared.drafts.Draft.{Draft};
 ghost use Rattle.fbc_world.specs.declared.events.Act.TheVariants.{Local, Write};
@@ -47,4 +50,14 @@ pub fn back_versions_come_first()
         → IsLegal shape file (happens owner (Local (local.Edit page (PutCell cell content))) landed ∷ before)
         → content.back_page ≢ 0 → content.back_page ≢ page → draft_owner shape file before content.back_page ≢ Some owner
         → IsSomeAnd (cell_in (kept shape file before content.back_page) content.back_cell) (λ back. is_back back.flag ≡ true) }
+{}
+
+/// A back value loses its link only where the chain of a row leads to it, and the owner has the page
+/// of that row in EX.
+pub fn links_are_cut_below_a_held_row()
+    ensures { (shape : Shape) (file : View) (before : History) (owner page cell : ℕ) (old content : Cell) (landed : Bool)
+        → IsLegal shape file (happens owner (Local (local.Edit page (PutCell cell content))) landed ∷ before)
+        → cell_at (newest shape file before) page cell ≡ Some old
+        → is_back old.flag ≡ true → takes_link old content ≡ true
+        → IsBelowHeldRow shape file before owner page cell }
 {}

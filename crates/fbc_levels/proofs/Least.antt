@@ -9,7 +9,7 @@ use Rattle.fbc_levels.specs.declared.resources.Resource.{Resource}
 use Rattle.fbc_levels.specs.declared.resources.Request.{Request}
 use Rattle.fbc_levels.specs.LockState.{LockState, lesser, holder_of, stands_in_way, IsHolder}
 
--- what holds of each holds of the one that a choice of one of two leaves
+-- What holds of each holds of the one that a choice of one of two leaves.
 fold-chosen : (P : Request → Type 0) (rs : List Request) (r : Request) → P r → All P rs → P (fold lesser r rs)
 fold-chosen P [] r here all = here
 fold-chosen P (t ∷ rs) r here all =
@@ -22,7 +22,7 @@ pub reduce-chosen : (P : Request → Type 0) (rs : List Request) → All P rs �
 reduce-chosen P [] all = tt
 reduce-chosen P (r ∷ rs) all = fold-chosen P rs r (All-head P r rs all) (All-tail P r rs all)
 
--- its owner is not past any other's
+-- Its owner is not past any other's.
 fold-first : (rs : List Request) (r : Request) → (fold lesser r rs).owner ≤ r.owner
 fold-first [] r = omega arith
 fold-first (t ∷ rs) r = omega (arith, fold-first rs (lesser r t), step (nat_lt t.owner r.owner) refl) where
@@ -37,7 +37,7 @@ fold-least (t ∷ rs) r = (omega (arith, fold-first rs (lesser r t), step (nat_l
   step true less = omega arith
   step false less = grind (arith, nat_tests)
 
--- of those that pass
+-- Of those that pass.
 from_filter : (P : Request → Type 0) (p : Request → Bool) (rs : List Request) → AllByRecursion P (filter p rs) → AllByRecursion (λ r. p r ≡ true → P r) rs
 from_filter P p [] all = tt
 from_filter P p (r ∷ rs) all = step (p r) refl (from_filter P p rs) all where
@@ -48,7 +48,7 @@ from_filter P p (r ∷ rs) all = step (p r) refl (from_filter P p rs) all where
 among : (rs : List Request) → All (Contains rs) rs
 among rs k d within = (k, within, get_or_default rs k (get_or rs k d) d within)
 
--- none passes where there is no least
+-- None passes where there is no least.
 none_passes : (p : Request → Bool) (rs : List Request) → reduce lesser (filter p rs) ≡ None → All (λ r. p r ≡ false) rs
 none_passes p [] none = All-nil (λ r. p r ≡ false)
 none_passes p (r ∷ rs) none = step (p r) refl (none_passes p rs) none where
@@ -56,7 +56,7 @@ none_passes p (r ∷ rs) none = step (p r) refl (none_passes p rs) none where
   step true is rest some = absurd (cc)
   step false is rest none' = All-cons (λ t. p t ≡ false) r rs is (rest none')
 
--- what is least of those that pass is not past any that passes
+-- What is least of those that pass is not past any that passes.
 least_passes : (p : Request → Bool) (rs passed : List Request) (h : Request) → filter p rs ≡ passed → reduce lesser passed ≡ Some h → All (λ r. p r ≡ true → h.owner ≤ r.owner) rs
 least_passes p rs [] h are is = absurd (cc)
 least_passes p rs (r ∷ passed) h are is =
@@ -67,7 +67,7 @@ least_passes p rs (r ∷ passed) h are is =
     let all : AllByRecursion Below (filter p rs) = rw are (first, rest) in
     All-from_recursion (λ t. p t ≡ true → h.owner ≤ t.owner) rs (from_filter Below p rs all)
 
--- the holder is in the way, and the least that is; without one nobody is in the way
+-- The holder is in the way, and the least that is; without one nobody is in the way.
 pub holder_least : (s : LockState) (owner : ℕ) (resource : Resource) (level : Level) → MatchOption (holder_of s owner resource level) (All (λ r. stands_in_way owner resource level r ≡ false) s.requests) (IsHolder s owner resource level)
 holder_least s owner resource level =
     step (holder_of s owner resource level) refl

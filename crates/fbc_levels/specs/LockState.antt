@@ -9,99 +9,99 @@ use Rattle.fbc_levels.specs.declared.resources.Request.{Request}
 use Rattle.fbc_levels.specs.Levels.{is_compatible}
 use Rattle.fbc_levels.specs.Resources.{is_same_resource}
 
--- how many requests there may be, and those that there are, in the order of asking
+-- How many requests there may be, and those that there are, in the order of asking.
 pub record LockState : Type 0 where
   pub capacity : ℕ
   pub requests : List Request
 
--- whether it is this owner's request for this resource
+-- Whether it is this owner's request for this resource.
 abbrev pub is_of : ℕ → Resource → Request → Bool
 is_of owner resource r = (r.owner == owner) && is_same_resource r.resource resource
 
--- the owner's request for the resource
+-- The owner's request for the resource.
 abbrev pub request_of : LockState → ℕ → Resource → Option Request
 request_of s owner resource = find (is_of owner resource) s.requests
 
--- the level that the owner is granted on the resource
+-- The level that the owner is granted on the resource.
 abbrev pub granted_of : LockState → ℕ → Resource → Level
 granted_of s owner resource = option_map_or (λ (r : Request). r.granted) (request_of s owner resource) Free
 
--- whether it is a request by which this owner waits
+-- Whether it is a request by which this owner waits.
 abbrev pub is_wait_of : ℕ → Request → Bool
 is_wait_of owner r = (r.owner == owner) && is_some r.waiting
 
--- the request by which the owner waits
+-- The request by which the owner waits.
 abbrev pub wait_of : LockState → ℕ → Option Request
 wait_of s owner = find (is_wait_of owner) s.requests
 
--- whether its owner is dead
+-- Whether its owner is dead.
 abbrev pub is_dead : Request → Bool
 is_dead r = not r.alive
 
--- whether it is a request of this owner, who is dead
+-- Whether it is a request of this owner, who is dead.
 abbrev pub is_dead_of : ℕ → Request → Bool
 is_dead_of owner r = (r.owner == owner) && is_dead r
 
--- no request of this owner says that it is dead
+-- No request of this owner says that it is dead.
 abbrev pub Lives : LockState → ℕ → Type 0
 Lives s owner = list_any (is_dead_of owner) s.requests ≡ false
 
--- whether it is a request of this owner, who lives
+-- Whether it is a request of this owner, who lives.
 abbrev pub is_alive_of : ℕ → Request → Bool
 is_alive_of owner r = (r.owner == owner) && r.alive
 
--- no request of this owner says that it lives
+-- No request of this owner says that it lives.
 abbrev pub IsDead : LockState → ℕ → Type 0
 IsDead s owner = list_any (is_alive_of owner) s.requests ≡ false
 
--- whether it keeps this owner from being granted this level: it is another's, living or dead, whose granted level conflicts
+-- Whether it keeps this owner from being granted this level: it is another's, living or dead, whose granted level conflicts.
 abbrev pub stands_in_way : ℕ → Resource → Level → Request → Bool
 stands_in_way owner resource level r =
     is_same_resource r.resource resource && not (r.owner == owner) && not (is_compatible level r.granted)
 
--- of two requests the one of the lesser owner, and of equal owners the first
+-- Of two requests the one of the lesser owner, and of equal owners the first.
 abbrev pub lesser : Request → Request → Request
 lesser r t = if nat_lt t.owner r.owner then t else r
 
--- the request of the least owner
+-- The request of the least owner.
 abbrev pub of_least_owner : List Request → Option Request
 of_least_owner requests = reduce lesser requests
 
--- the dead owner with the least number, of those that have requests
+-- The dead owner with the least number, of those that have requests.
 abbrev pub dead_of : LockState → Option Request
 dead_of s = of_least_owner (filter is_dead s.requests)
 
--- the request of the least owner that keeps this owner from being granted this level
+-- The request of the least owner that keeps this owner from being granted this level.
 abbrev pub holder_of : LockState → ℕ → Resource → Level → Option Request
 holder_of s owner resource level = of_least_owner (filter (stands_in_way owner resource level) s.requests)
 
--- it keeps this owner from being granted this level, and nobody with a lesser number does
+-- It keeps this owner from being granted this level, and nobody with a lesser number does.
 pub record IsHolder (s : LockState) (owner : ℕ) (resource : Resource) (level : Level) (holder : Request) : Type 0 where
   pub among : Contains s.requests holder
   pub in_way : stands_in_way owner resource level holder ≡ true
   pub least : All (λ (r : Request). stands_in_way owner resource level r ≡ true → holder.owner ≤ r.owner) s.requests
 
--- another owner's granted level conflicts with the level that this owner wants
+-- Another owner's granted level conflicts with the level that this owner wants.
 abbrev pub IsBlocked : LockState → ℕ → Resource → Level → Type 0
 IsBlocked s owner resource level = IsSome (holder_of s owner resource level)
 
--- granted levels of different owners on one resource go beside each other
+-- Granted levels of different owners on one resource go beside each other.
 abbrev pub GoBeside : Request → Request → Type 0
 GoBeside r t = r.resource ≡ t.resource → r.owner ≢ t.owner → IsTrue (is_compatible r.granted t.granted)
 
--- an owner has one request for a resource
+-- An owner has one request for a resource.
 abbrev pub AreApart : Request → Request → Type 0
 AreApart r t = r.owner ≡ t.owner → r.resource ≢ t.resource
 
--- an owner waits by one request
+-- An owner waits by one request.
 abbrev pub WaitOnce : Request → Request → Type 0
 WaitOnce r t = r.owner ≡ t.owner → IsSome r.waiting → IsNone t.waiting
 
--- the requests of an owner agree on whether it is alive
+-- The requests of an owner agree on whether it is alive.
 abbrev pub ShareFate : Request → Request → Type 0
 ShareFate r t = r.owner ≡ t.owner → r.alive ≡ t.alive
 
--- granted levels go beside each other, and an owner has one request for each resource and one waiting request at most
+-- Granted levels go beside each other, and an owner has one request for each resource and one waiting request at most.
 pub record IsLawful (s : LockState) : Type 0 where
   pub beside : AllPairs GoBeside s.requests
   pub apart : AllPairs AreApart s.requests

@@ -3,7 +3,7 @@ use Rattle.std.specs.Prelude.{ℕ, List, codes}
 use Rattle.fbc_levels.specs.declared.levels.Level.{Level}
 use Rattle.fbc_levels.specs.declared.levels.Level.TheVariants.{Free, Null, Sr, Pr, Sw, Pw, Ex}
 
--- the text of a level
+-- The text of a level.
 abbrev pub name_of : Level → List ℕ
 name_of Free = codes "none"
 name_of Null = codes "null"

@@ -3,15 +3,15 @@ use Rattle.std.specs.Prelude.{◌≡◌, ℕ, ◌-◌, ◌≤◌, List, ◌++◌
 use Rattle.std.proofs.Common.{sym, ◌∙◌, ap}
 use Rattle.std.proofs.lemmas.List.{length-take-le, take-append-drop}
 
--- the owners that are kept
+-- The owners that are kept.
 abbrev pub owners_of : ℕ → List ℕ → List ℕ
 owners_of count places = take count places
 
--- the places for these owners
+-- The places for these owners.
 abbrev pub places_for : List ℕ → List ℕ
 places_for owners = owners ++ replicate (8 - length owners) 0
 
--- the owners lie within eight places, and zeros follow them
+-- The owners lie within eight places, and zeros follow them.
 pub record IsPadded (count : ℕ) (places : List ℕ) : Type 0 where
   pub width : length places ≡ 8
   pub within : count ≤ length places

@@ -10,19 +10,19 @@ use std::fmt;
 /// A lock level. The order is that of the numbers, from none to exclusive.
 #[derive(Clone, Copy, Debug, PartialEq, Eq)]
 pub enum Level {
-    /// none: no lock is held
+    /// None: no lock is held.
     Free,
-    /// null: a lock that keeps nobody out
+    /// Null: a lock that keeps nobody out.
     Null,
-    /// SR, shared read
+    /// SR, shared read.
     Sr,
-    /// PR, protected read
+    /// PR, protected read.
     Pr,
-    /// SW, shared write
+    /// SW, shared write.
     Sw,
-    /// PW, protected write
+    /// PW, protected write.
     Pw,
-    /// EX, exclusive
+    /// EX, exclusive.
     Ex,
 }
 

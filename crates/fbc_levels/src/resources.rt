@@ -1,7 +1,7 @@
 //! What is locked, and what is said about it: requests, callbacks and circles of waiting owners.
 
 ghost use Rattle.std.specs.Prelude.{◌≡◌, ◌≤◌, length};
-ghost use Rattle.fbc_levels.specs.Resources.{is_same_series, is_same_resource};
+ghost use Rattle.fbc_levels.specs.Resources.{is_same_series, is_same_resource, page_resource};
 
 use crate::levels::Level;
 use std::marker::Model;
@@ -19,6 +19,18 @@ pub enum Series {
 pub struct Resource {
     pub series: Series,
     pub key: u32,
+}
+
+impl Resource {
+    /// The page of this number as what is locked.
+    pub fn page(number: u32) -> Resource
+        ensures { result ≡ page_resource number }
+    {
+        Resource {
+            series: Series::Page,
+            key: number,
+        }
+    }
 }
 
 /// Asks an owner to lower its lock on a page to `keep`, since `asker` waits for it.

@@ -10,13 +10,13 @@ use Rattle.fbc_levels.specs.LockState.{LockState, IsLawful, IsDead, is_alive_of,
 use Rattle.fbc_levels.proofs.Least.{reduce-chosen}
 use Rattle.fbc_lock_table.specs.Effects.{of_dead, died}
 
--- where no element passes, a test of some finds none
+-- Where no element passes, a test of some finds none.
 pub any-none : {X : Type 0} (q : X → Bool) (xs : List X) → All (λ x. q x ≡ false) xs → list_any q xs ≡ false
 any-none q [] none = refl
 any-none q (x ∷ xs) none = rw (All-head (λ y. q y ≡ false) x xs none) (any-none q xs (All-tail (λ y. q y ≡ false) x xs none))
 
 module _ (s : LockState) (l : IsLawful s) where
-  -- the requests at two places are alive or dead together, where they are of one owner
+  -- The requests at two places are alive or dead together, where they are of one owner.
   same_fate : (i j : ℕ) (d : Request) → i < length s.requests → j < length s.requests → (get_or s.requests j d).owner ≡ (get_or s.requests i d).owner → (get_or s.requests j d).alive ≡ (get_or s.requests i d).alive
   same_fate i j d within_i within_j same = step (cases_lt i j) where
     step : (i < j) ⊎ (j ≤ i) → (get_or s.requests j d).alive ≡ (get_or s.requests i d).alive
@@ -28,7 +28,7 @@ module _ (s : LockState) (l : IsLawful s) where
           let here : j ≡ i = omega (arith, after, equal) in
           ap (λ k. (get_or s.requests k d).alive) here
 
-  -- no request of a dead request's owner says that it lives
+  -- No request of a dead request's owner says that it lives.
   pub each_fate : All (λ r. r.alive ≡ false → IsDead s r.owner) s.requests
   each_fate i d within dead = any-none (is_alive_of (get_or s.requests i d).owner) s.requests others where
     none : (t : Request) → (t.owner ≡ (get_or s.requests i d).owner → t.alive ≡ false) → is_alive_of (get_or s.requests i d).owner t ≡ false
@@ -45,13 +45,13 @@ module _ (s : LockState) (l : IsLawful s) where
 not_alive : (r : Request) → is_dead r ≡ true → r.alive ≡ false
 not_alive r dead = grind (arith)
 
--- the dead owner that is chosen is dead by all of its requests
+-- The dead owner that is chosen is dead by all of its requests.
 pub dead_fate : (s : LockState) → IsLawful s → IfSome (dead_of s) (λ r. IsDead s r.owner)
 dead_fate s l =
     reduce-chosen (λ r. IsDead s r.owner) (filter is_dead s.requests)
     (λ k d within. All-filter is_dead (λ r. r.alive ≡ false → IsDead s r.owner) s.requests (each_fate s l) k d within (not_alive (get_or (filter is_dead s.requests) k d) (filter_passes is_dead s.requests k d within)))
 
--- who died is dead
+-- Who died is dead.
 pub died_is_dead : (s : LockState) (owner : ℕ) → IsDead (died s owner) owner
 died_is_dead s owner = go s.requests where
   none : (r : Request) → is_alive_of owner (of_dead owner r) ≡ false

@@ -2,7 +2,7 @@
 use Rattle.std.proofs.Common.{◌≡◌, ℕ, zero, suc, ◌+◌, Bool, true, false, cond, List, [], ◌∷◌, take, Some, None, slice_get, add-one, refl}
 use Rattle.std.specs.List.{find}
 
--- it is the one that is read, where those before do not pass
+-- It is the one that is read, where those before do not pass.
 pub find_here : {X : Type 0} (p : X → Bool) (xs : List X) (k : ℕ) (x : X) → find p (take k xs) ≡ None → slice_get xs k ≡ Some x → p x ≡ true → find p xs ≡ Some x
 find_here p [] k x none at is = absurd (cc)
 find_here p (y ∷ ys) zero x none at is =
@@ -13,7 +13,7 @@ find_here p (y ∷ ys) (suc k) x none at is = step (p y) none (λ none'. find_he
   step true none' rest = absurd (cc)
   step false none' rest = rest none'
 
--- none up to the one that is read, where that does not pass
+-- None up to the one that is read, where that does not pass.
 find_next : {X : Type 0} (p : X → Bool) (xs : List X) (k : ℕ) (x : X) → find p (take k xs) ≡ None → slice_get xs k ≡ Some x → p x ≡ false → find p (take (suc k) xs) ≡ None
 find_next p [] k x none at is = absurd (cc)
 find_next p (y ∷ ys) zero x none at is =

@@ -18,14 +18,14 @@ use Rattle.fbc_lock_table.specs.Effects.{with_granted, with_waiting, without_wai
 use Rattle.fbc_lock_table.proofs.Pairs.{AllPairs-map, NotBoth, find-only, none-find, none-any, none-reduce}
 use Rattle.fbc_lock_table.proofs.Ways.{compatible-sym, is_of-owner, is_of-resource, is_of-self, beside-granted, beside-lowered, once-queued, once-fewer, beside-wait_granted, apart-new, alive-new, own_way, own_wait}
 
--- nothing is asked of single requests
+-- Nothing is asked of single requests.
 abbrev Any : Request → Type 0
 Any r = Unit {0}
 
 any : (rs : List Request) → All Any rs
 any rs k d within = tt
 
--- the requests that pass may be fewer
+-- The requests that pass may be fewer.
 pub filter_lawful : (s : LockState) (p : Request → Bool) → IsLawful s → IsLawful (record s { requests = filter p s.requests })
 filter_lawful s p l =
     let fewer : length (filter p s.requests) + length (filter (λ r. not (p r)) s.requests) ≡ length s.requests = length-filter_both p (λ r. not (p r)) (λ r. refl) s.requests in
@@ -37,7 +37,7 @@ filter_lawful s p l =
       room = omega (arith, l.room);
     }
 
--- a level is granted that nobody is in the way of
+-- A level is granted that nobody is in the way of.
 pub granted_lawful : (s : LockState) (owner : ℕ) (resource : Resource) (level : Level) → All (λ r. stands_in_way owner resource level r ≡ false) s.requests → IsLawful s → IsLawful (record s { requests = map (with_granted owner resource level) s.requests })
 granted_lawful s owner resource level free l =
     let f : Request → Request = with_granted owner resource level in
@@ -49,24 +49,24 @@ granted_lawful s owner resource level free l =
       room = omega (arith, length-map s.requests f, l.room);
     }
 
--- no two requests are of one owner and one resource
+-- No two requests are of one owner and one resource.
 only_one : (s : LockState) (owner : ℕ) (resource : Resource) → IsLawful s → AllPairs (NotBoth (is_of owner resource)) s.requests
 only_one s owner resource l i j d below within a b =
     l.apart i j d below within
     (is_of-owner owner resource (get_or s.requests i d) a ∙ sym (is_of-owner owner resource (get_or s.requests j d) b))
     (is_of-resource owner resource (get_or s.requests i d) a ∙ sym (is_of-resource owner resource (get_or s.requests j d) b))
 
--- each request of the owner for the resource is the one that is found
+-- Each request of the owner for the resource is the one that is found.
 pub the_request : (s : LockState) (owner : ℕ) (resource : Resource) → IsLawful s → All (λ r. is_of owner resource r ≡ true → request_of s owner resource ≡ Some r) s.requests
 the_request s owner resource l = find-only (is_of owner resource) s.requests (only_one s owner resource l)
 
--- each request is the one that is found by its owner and resource
+-- Each request is the one that is found by its owner and resource.
 pub only_request : (s : LockState) (k : ℕ) (r : Request) → IsLawful s → k < length s.requests → r ≡ get_or s.requests k r → request_of s r.owner r.resource ≡ Some r
 only_request s k r l within at =
     let Found : Request → Type 0 = λ y. is_of r.owner r.resource y ≡ true → request_of s r.owner r.resource ≡ Some y in
     subst Found (sym at) (the_request s r.owner r.resource l k r within) (is_of-self r)
 
--- the granted level is lowered
+-- The granted level is lowered.
 pub lowered_lawful : (s : LockState) (owner : ℕ) (resource : Resource) (level : Level) → join (granted_of s owner resource) level ≡ granted_of s owner resource → IsLawful s → IsLawful (record s { requests = map (with_granted owner resource level) s.requests })
 lowered_lawful s owner resource level gives l =
     let f : Request → Request = with_granted owner resource level in
@@ -80,7 +80,7 @@ lowered_lawful s owner resource level gives l =
       given : (r : Request) → request_of s owner resource ≡ Some r → join r.granted level ≡ r.granted
       given r is = rw is at gives
 
--- an owner that waits for nothing is queued
+-- An owner that waits for nothing is queued.
 pub queued_lawful : (s : LockState) (owner : ℕ) (resource : Resource) (level : Level) → All (λ r. is_wait_of owner r ≡ false) s.requests → IsLawful s → IsLawful (record s { requests = map (with_waiting owner resource level) s.requests })
 queued_lawful s owner resource level none l =
     let f : Request → Request = with_waiting owner resource level in
@@ -92,7 +92,7 @@ queued_lawful s owner resource level none l =
       room = omega (arith, length-map s.requests f, l.room);
     }
 
--- the owner waits no more
+-- The owner waits no more.
 pub cleared_lawful : (s : LockState) (owner : ℕ) → IsLawful s → IsLawful (record s { requests = map (without_wait owner) s.requests })
 cleared_lawful s owner l =
     let f : Request → Request = without_wait owner in
@@ -104,7 +104,7 @@ cleared_lawful s owner l =
       room = omega (arith, length-map s.requests f, l.room);
     }
 
--- the owner is dead
+-- The owner is dead.
 pub died_lawful : (s : LockState) (owner : ℕ) → IsLawful s → IsLawful (record s { requests = map (of_dead owner) s.requests })
 died_lawful s owner l =
     let f : Request → Request = of_dead owner in
@@ -118,11 +118,11 @@ died_lawful s owner l =
       both : (r t : Request) → r.alive ≡ t.alive → r.owner ≡ t.owner → not (r.owner == owner) && r.alive ≡ not (t.owner == owner) && t.alive
       both r t alike same = cc
 
--- nobody is in the way of what the request waits for
+-- Nobody is in the way of what the request waits for.
 abbrev MayBeGranted : LockState → ℕ → Resource → Request → Type 0
 MayBeGranted s owner resource r = IfSome r.waiting (λ level. holder_of s owner resource level ≡ None)
 
--- the request does not keep the owner from any level that nobody is in the way of
+-- The request does not keep the owner from any level that nobody is in the way of.
 abbrev IsOutOfWay : LockState → ℕ → Resource → Request → Type 0
 IsOutOfWay s owner resource r = (level : Level) → holder_of s owner resource level ≡ None → stands_in_way owner resource level r ≡ false
 
@@ -146,7 +146,7 @@ wait_granted_lawful s owner resource may l =
       given : (r : Request) → request_of s owner resource ≡ Some r → MayBeGranted s owner resource r
       given r is = rw is at may
 
--- a new request is put behind all others
+-- A new request is put behind all others.
 pub new_lawful : (s : LockState) (owner : ℕ) (resource : Resource) (word : ℕ) → request_of s owner resource ≡ None → Lives s owner → length s.requests < s.capacity → IsLawful s → IsLawful (record s { requests = s.requests ++ new_request owner resource word ∷ [] })
 new_lawful s owner resource word none lives room l =
     let new : Request = new_request owner resource word in
@@ -158,7 +158,7 @@ new_lawful s owner resource word none lives room l =
       room = omega (arith, length-append s.requests (new ∷ []));
     }
 
--- what an ask enters
+-- What an ask enters.
 pub entered_lawful : (s : LockState) (owner : ℕ) (resource : Resource) (word : ℕ) → lacks_room s owner resource ≡ false → Lives s owner → IsLawful s → IsLawful (record s { requests = entered s.requests owner resource word })
 entered_lawful s owner resource word room lives l = step (request_of s owner resource) refl where
   spare : (n m : ℕ) → true && (n == m) ≡ false → n ≤ m → n < m
@@ -174,14 +174,14 @@ entered_all P rs owner resource word all here = step (find (is_of owner resource
   step None = All-push P rs (new_request owner resource word) all here
   step (Some r) = all
 
--- an ask that is granted
+-- An ask that is granted.
 pub ask_granted_lawful : (s : LockState) (owner : ℕ) (resource : Resource) (level : Level) (word : ℕ) → lacks_room s owner resource ≡ false → holder_of s owner resource level ≡ None → Lives s owner → IsLawful s → IsLawful (record s { requests = map (with_granted owner resource level) (entered s.requests owner resource word) })
 ask_granted_lawful s owner resource level word room none lives l =
     granted_lawful (record s { requests = entered s.requests owner resource word }) owner resource level
     (entered_all (λ r. stands_in_way owner resource level r ≡ false) s.requests owner resource word (none-reduce lesser (stands_in_way owner resource level) s.requests none) (own_way owner resource level word))
     (entered_lawful s owner resource word room lives l)
 
--- an ask that is queued
+-- An ask that is queued.
 pub ask_queued_lawful : (s : LockState) (owner : ℕ) (resource : Resource) (level : Level) (word : ℕ) → lacks_room s owner resource ≡ false → wait_of s owner ≡ None → Lives s owner → IsLawful s → IsLawful (record s { requests = map (with_waiting owner resource level) (entered s.requests owner resource word) })
 ask_queued_lawful s owner resource level word room none lives l =
     queued_lawful (record s { requests = entered s.requests owner resource word }) owner resource level

@@ -4,7 +4,7 @@ use Rattle.std.specs.List.{All, AllPairs, filter, find, reduce, list_any}
 use Rattle.std.proofs.lemmas.List.{length-map, get_or-map}
 use Rattle.std.proofs.lemmas.List.Elements.{All-nil, All-cons}
 
--- a relation of the pairs becomes another where each element is changed, if it does so for any two elements with P
+-- A relation of the pairs becomes another where each element is changed, if it does so for any two elements with P.
 pub AllPairs-map : {X : Type 0} (R S : X → X → Type 0) (P : X → Type 0) (f : X → X) → ((x y : X) → P x → P y → R x y → S (f x) (f y)) → (xs : List X) → All P xs → AllPairs R xs → AllPairs S (map f xs)
 AllPairs-map R S P f step xs all pairs i j d below within =
     let size = length-map xs f in
@@ -12,7 +12,7 @@ AllPairs-map R S P f step xs all pairs i j d below within =
     let here : i < length xs = omega arith in
     rw (get_or-map f xs i d d here, get_or-map f xs j d d there) (step _ _ (all i d here) (all j d there) (pairs i j d below there))
 
--- what is not found is nowhere
+-- What is not found is nowhere.
 pub none-find : {X : Type 0} (p : X → Bool) (xs : List X) → find p xs ≡ None → All (λ x. p x ≡ false) xs
 none-find p [] none = All-nil (λ x. p x ≡ false)
 none-find {X} p (x ∷ xs) none = go (p x) refl (none-find p xs) none where
@@ -34,7 +34,7 @@ none-any {X} p (x ∷ xs) none = go (p x) refl (none-any p xs) none where
   go true is rest some = absurd (cc)
   go false is rest none' = All-cons (λ y. p y ≡ false) x xs is (rest none')
 
--- a relation of all pairs holds of the pairs behind the first, and of the first and each behind it
+-- A relation of all pairs holds of the pairs behind the first, and of the first and each behind it.
 pub AllPairs-tail : {X : Type 0} (R : X → X → Type 0) (x : X) (xs : List X) → AllPairs R (x ∷ xs) → AllPairs R xs
 AllPairs-tail R x xs pairs i j d below within =
     let below' : suc i < suc j = omega arith in
@@ -47,11 +47,11 @@ AllPairs-head R x xs pairs k d within =
     let within' : suc k < length (x ∷ xs) = omega arith in
     pairs 0 (suc k) d below within'
 
--- the two do not both pass
+-- The two do not both pass.
 abbrev pub NotBoth : {X : Type 0} → (X → Bool) → X → X → Type 0
 NotBoth p x y = p x ≡ true → p y ≡ true → ⊥
 
--- where no two elements pass, one that passes is the one that is found
+-- Where no two elements pass, one that passes is the one that is found.
 pub find-only : {X : Type 0} (p : X → Bool) (xs : List X) → AllPairs (NotBoth p) xs → All (λ x. p x ≡ true → find p xs ≡ Some x) xs
 find-only p [] once = All-nil (λ x. p x ≡ true → find p [] ≡ Some x)
 find-only {X} p (x ∷ xs) once = All-cons (λ y. p y ≡ true → find p (x ∷ xs) ≡ Some y) x xs (λ here. here_found (p x) here) (λ k d within there. later (p x) refl (get_or xs k d) there (find-only p xs (AllPairs-tail (NotBoth p) x xs once) k d within there) (AllPairs-head (NotBoth p) x xs once k d within)) where

@@ -10,25 +10,25 @@ use Rattle.fbc_levels.specs.LockState.{LockState, is_of, is_wait_of, request_of,
 use Rattle.fbc_lock_table.specs.declared.answers.Asked.{Asked}
 use Rattle.fbc_lock_table.specs.declared.answers.Asked.TheVariants.{Granted, Queued}
 
--- a request of a living owner with no level yet
+-- A request of a living owner with no level yet.
 abbrev pub new_request : ℕ → Resource → ℕ → Request
 new_request owner resource word =
     record { owner = owner; resource = resource; granted = Free; waiting = None; word = word; alive = true }
 
--- the requests with one of this owner for this resource, behind all others where there was none
+-- The requests with one of this owner for this resource, behind all others where there was none.
 abbrev pub entered : List Request → ℕ → Resource → ℕ → List Request
 entered requests owner resource word =
     if is_some (find (is_of owner resource) requests) then requests else requests ++ new_request owner resource word ∷ []
 
--- this owner's request for this resource has this granted level; others stay
+-- This owner's request for this resource has this granted level; others stay.
 abbrev pub with_granted : ℕ → Resource → Level → Request → Request
 with_granted owner resource level r = record r { granted = if is_of owner resource r then level else r.granted }
 
--- this owner's request for this resource waits for this level; others stay
+-- This owner's request for this resource waits for this level; others stay.
 abbrev pub with_waiting : ℕ → Resource → Level → Request → Request
 with_waiting owner resource level r = record r { waiting = if is_of owner resource r then Some level else r.waiting }
 
--- what an ask leaves, by its answer
+-- What an ask leaves, by its answer.
 abbrev pub requests_after : List Request → ℕ → Resource → Level → ℕ → Asked → List Request
 requests_after requests owner resource level word Granted =
     map (with_granted owner resource level) (entered requests owner resource word)
@@ -40,42 +40,42 @@ abbrev pub after_ask : LockState → ℕ → Resource → Level → ℕ → Aske
 after_ask s owner resource level word answer =
     record s { requests = requests_after s.requests owner resource level word answer }
 
--- without this owner's request for this resource
+-- Without this owner's request for this resource.
 abbrev pub without : LockState → ℕ → Resource → LockState
 without s owner resource = record s { requests = filter (λ r. not (is_of owner resource r)) s.requests }
 
--- what a lowering leaves: none takes the request away
+-- What a lowering leaves: none takes the request away.
 abbrev pub lowered : LockState → ℕ → Resource → Level → LockState
 lowered s owner resource Free = without s owner resource
 lowered s owner resource level = record s { requests = map (with_granted owner resource level) s.requests }
 
--- whether the owner waits by it and has no level by it
+-- Whether the owner waits by it and has no level by it.
 abbrev pub is_bare_wait_of : ℕ → Request → Bool
 is_bare_wait_of owner r = is_wait_of owner r && is_free r.granted
 
--- this owner's request waits for nothing; others stay
+-- This owner's request waits for nothing; others stay.
 abbrev pub without_wait : ℕ → Request → Request
 without_wait owner r = record r { waiting = if r.owner == owner then None else r.waiting }
 
--- what a withdrawal leaves
+-- What a withdrawal leaves.
 abbrev pub withdrawn : LockState → ℕ → LockState
 withdrawn s owner =
     record s { requests = map (without_wait owner) (filter (λ r. not (is_bare_wait_of owner r)) s.requests) }
 
--- this owner's request is a dead owner's; others stay
+-- This owner's request is a dead owner's; others stay.
 abbrev pub of_dead : ℕ → Request → Request
 of_dead owner r = record r { alive = not (r.owner == owner) && r.alive }
 
--- what a death leaves
+-- What a death leaves.
 abbrev pub died : LockState → ℕ → LockState
 died s owner = record s { requests = map (of_dead owner) s.requests }
 
--- this owner's request for this resource is granted what it waits for; others stay
+-- This owner's request for this resource is granted what it waits for; others stay.
 abbrev pub granting : ℕ → Resource → Request → Request
 granting owner resource r =
     record r { granted = if is_of owner resource r then unwrap_or r.waiting r.granted else r.granted; waiting = if is_of owner resource r then None else r.waiting }
 
--- what the owner waits for on the resource may be granted: nobody is in the way of it
+-- What the owner waits for on the resource may be granted: nobody is in the way of it.
 abbrev pub MayGrant : LockState → ℕ → Resource → Type 0
 MayGrant s owner resource =
     IfSome (request_of s owner resource) (λ r. IfSome r.waiting (λ level. holder_of s owner resource level ≡ None))

@@ -19,23 +19,23 @@ use Rattle.fbc_machine.specs.Shown.{made_at, is_held_there, is_standing_there, n
 abbrev pub standing_of : List Transaction → ℕ → ℕ → List Version → List Numbered
 standing_of ts relation row versions = filter_map (λ (v : Made). option_and_then (definition.numbered v.value) (slice_get ts v.maker)) (filter_map (made_at relation row) versions)
 
--- the first version that a snapshot holds
+-- The first version that a snapshot holds.
 pub seen_found : (ts : List Transaction) (relation row : ℕ) (snapshot : List ℕ) (versions : List Version) → option_and_then (λ (v : Version). v.value) (find (is_held_there ts relation row snapshot) versions) ≡ see (standing_of ts relation row versions) (definition.is_held snapshot)
 seen_found ts relation row snapshot [] = refl
 seen_found ts relation row snapshot (v ∷ older) = grind (arith, seen_found ts relation row snapshot older)
 
--- the first version that is not rolled back
+-- The first version that is not rolled back.
 pub newest_found : (ts : List Transaction) (relation row : ℕ) (versions : List Version) → option_and_then (newest_from ts) (find (is_standing_there ts relation row) versions) ≡ newest_of (standing_of ts relation row versions)
 newest_found ts relation row [] = refl
 newest_found ts relation row (v ∷ older) = grind (arith, newest_found ts relation row older)
 
--- before its end a list has something
+-- Before its end a list has something.
 pub before_end : {X : Type 0} (xs : List X) (k : ℕ) → k < length xs → is_some (slice_get xs k) ≡ true
 before_end [] k lt = absurd (omega arith)
 before_end (x ∷ xs) zero lt = refl
 before_end (x ∷ xs) (suc k) lt = before_end xs k (omega arith)
 
--- the place of the first element that passes is within the list, and that element stands there
+-- The place of the first element that passes is within the list, and that element stands there.
 module _ {X : Type 0} (p : X → Bool) (xs : List X) where
   there : (b : Bool) → nat_lt (position_or_len p xs) (length xs) ≡ b → option_and_then (slice_get xs) (if b then Some (position_or_len p xs) else None) ≡ slice_get xs (position_or_len p xs)
   there true is = refl
@@ -58,7 +58,7 @@ module _ {X : Type 0} (p : X → Bool) (xs : List X) where
   pub place_found : is_some (position_from p 0 xs) ≡ is_some (find p xs)
   place_found = ap is_some (sym (position_from-zero p xs)) ∙ found (nat_lt (position_or_len p xs) (length xs)) refl ∙ ap is_some (sym (find_at p xs))
 
--- when a change of a row that is seen conflicts, and when it is done
+-- When a change of a row that is seen conflicts, and when it is done.
 module _ (snapshot : List ℕ) where
   pub conflicts : (versions : List Numbered) (new : Newest) → newest_of versions ≡ Some new → is_some (see versions (definition.is_held snapshot)) ≡ true → definition.is_held snapshot new.number ≡ false → IsRefused snapshot versions (reply.Conflict new.number)
   conflicts [] new is sees held = cc

@@ -13,7 +13,7 @@ use Rattle.fbc_machine.specs.declared.machine.Machine.{Machine as Shown}
 use Rattle.fbc_machine.specs.Shown.{shown, is_at, made_at}
 use Rattle.fbc_machine.specs.Scanned.{nearer, IsNextRow, added}
 
--- a row number, if there is one, is at most so many
+-- A row number, if there is one, is at most so many.
 abbrev pub IsAtMost : Option ℕ → ℕ → Type 0
 IsAtMost None row = ⊥
 IsAtMost (Some least) row = least ≤ row
@@ -47,7 +47,7 @@ module _ (relation from : ℕ) where
   without v vs row true is not_at rest = absurd (not_at refl)
   without v vs row false is not_at rest = rw is rest
 
-  -- a row number that was passed over has no version
+  -- A row number that was passed over has no version.
   pub fold_misses : (versions : List Version) (next : Option ℕ) (row : ℕ) → from ≤ row → (IsAtMost (fold (nearer relation from) next versions) row → ⊥) → filter_map (made_at relation row) versions ≡ []
   fold_misses [] next row le far = refl
   fold_misses (v ∷ vs) next row le far =
@@ -55,27 +55,27 @@ module _ (relation from : ℕ) where
       (λ is. far (fold_near vs (nearer relation from next v) row (meets next v row le is)))
       (fold_misses vs (nearer relation from next v) row le far)
 
--- what was passed over lies from the start on and below the next row number
+-- What was passed over lies from the start on and below the next row number.
 next_at : (machine : Machine) (relation from : ℕ) (next : Option ℕ) → ((row : ℕ) → from ≤ row → (IsAtMost next row → ⊥) → machine.rows relation row ≡ []) → IsFrom from next → IsNextRow machine relation from next
 next_at machine relation from None misses is = λ row le. misses row le (λ near. near)
 next_at machine relation from (Some next) misses is = (is, λ row le lt. misses row le (λ near. absurd (omega arith)))
 
--- the next row number after a walk over all versions
+-- The next row number after a walk over all versions.
 pub next_found : (relation from : ℕ) (machine : Shown) → IsNextRow (shown machine) relation from (fold (nearer relation from) None machine.versions.items)
 next_found relation from machine = next_at (shown machine) relation from (fold (nearer relation from) None machine.versions.items) (fold_misses relation from machine.versions.items None) (fold_from relation from machine.versions.items None tt)
 
--- a list that rises, and a number above it
+-- A list that rises, and a number above it.
 increasing-push : (xs : List ℕ) (y : ℕ) → IsStrictlyIncreasing xs → ((k : ℕ) → k < length xs → slice_index xs k < y) → IsStrictlyIncreasing (xs ++ y ∷ [])
 increasing-push xs y rises below k lt = grind (arith, common_steps, rises k, below k)
 
 below-push : (xs : List ℕ) (y : ℕ) → ((k : ℕ) → k < length xs → slice_index xs k < y) → (k : ℕ) → k < length (xs ++ y ∷ []) → slice_index (xs ++ y ∷ []) k < y + 1
 below-push xs y below k lt = grind (arith, common_steps, below k)
 
--- the numbers of rows
+-- The numbers of rows.
 abbrev pub numbers_of : List (ℕ × List ℕ) → List ℕ
 numbers_of rows = map (λ (r : ℕ × List ℕ). r.0) rows
 
--- the rows so far are those below a number that are seen
+-- The rows so far are those below a number that are seen.
 pub record IsScanBelow (visible : ℕ → Option (List ℕ)) (from : ℕ) (rows : List (ℕ × List ℕ)) : Type 0 where
   pub rising : IsStrictlyIncreasing (numbers_of rows)
   pub below : (k : ℕ) → k < length (numbers_of rows) → slice_index (numbers_of rows) k < from
@@ -94,7 +94,7 @@ module _ (visible : ℕ → Option (List ℕ)) (from : ℕ) (rows : List (ℕ ×
   lower : (row : ℕ) (value : List ℕ) → ((r : ℕ) → from ≤ r → visible r ≡ None) → visible row ≡ Some value → row < from
   lower row value none e = grind (arith, none row, e)
 
-  -- from some number on nothing is seen
+  -- From some number on nothing is seen.
   pub finishes : ((row : ℕ) → from ≤ row → visible row ≡ None) → IsScan visible rows
   finishes none = record {
     rising = is.rising;
@@ -108,7 +108,7 @@ module _ (visible : ℕ → Option (List ℕ)) (from : ℕ) (rows : List (ℕ ×
     under : (r : ℕ) (value : List ℕ) → visible row ≡ None → r < row + 1 → visible r ≡ Some value → r < row
     under r value here lt e = grind (arith, here, e)
 
-    -- at the next row nothing is seen
+    -- At the next row nothing is seen.
     skips : visible row ≡ None → IsScanBelow visible (row + 1) rows
     skips here = record {
       rising = is.rising;
@@ -120,7 +120,7 @@ module _ (visible : ℕ → Option (List ℕ)) (from : ℕ) (rows : List (ℕ ×
     numbers : (k : ℕ) → k < length (numbers_of rows) → slice_index (numbers_of rows) k < row
     numbers k lt = grind (arith, is.below k lt)
 
-    -- at the next row a value is seen
+    -- At the next row a value is seen.
     takes_seen : (value : List ℕ) → visible row ≡ Some value → (r : ℕ) (v : List ℕ) → Contains (rows ++ (row, value) ∷ []) (r, v) → visible r ≡ Some v
     takes_seen value here r v c = elim (Contains-push_cases rows (row, value) (r, v) c) [
       | inl old ↦ is.seen r v old
@@ -142,11 +142,11 @@ module _ (visible : ℕ → Option (List ℕ)) (from : ℕ) (rows : List (ℕ ×
       all = λ r v. takes_all value here r v (nat_lt r row) refl;
     }
 
-    -- the next row, whether something is seen there or not
+    -- The next row, whether something is seen there or not.
     pub goes : (found : Option (List ℕ)) → visible row ≡ found → IsScanBelow visible (row + 1) (added found row rows)
     goes None here = skips here
     goes (Some value) here = takes value here
 
--- a row without versions shows nothing
+-- A row without versions shows nothing.
 pub unseen : (machine : Machine) (relation row : ℕ) (held : ℕ → Bool) → machine.rows relation row ≡ [] → see (standing_versions machine relation row) held ≡ None
 unseen machine relation row held e = rw e refl

@@ -79,7 +79,8 @@ fn insert(
 
 /// Why a transaction of this snapshot may not change the row, if there is a reason.
 fn refusal(machine: &Machine, relation: u8, row: u32, snapshot: &[u32]) -> Option<Reply>
-    ensures { MatchOption result (IsDone snapshot.now (standing_versions (shown machine.now) relation row)) (IsRefused snapshot.now (standing_versions (shown machine.now) relation row)) }
+    ensures { MatchOption result (IsDone snapshot.now (standing_versions (shown machine.now) relation row))
+        (IsRefused snapshot.now (standing_versions (shown machine.now) relation row)) }
 {
     let Some(newest) = machine.newest(relation, row) else {
         return Some(Reply::NoRow);

@@ -6,7 +6,7 @@ use Rattle.fbc_kinds.specs.declared.snapshots.Standing.TheVariants as standing
 use Rattle.fbc_kinds.specs.declared.snapshots.Transaction.{Transaction}
 use Rattle.fbc_kinds.specs.Chain.{Version}
 use Rattle.fbc_kinds.specs.Machine.{committed_numbers, is_committed, is_open_of, numbered}
-use Rattle.fbc_views.proofs.RolledBack.{StandAlike, stand_alike_itself}
+use Rattle.fbc_page_edits.proofs.RolledBack.{StandAlike, stand_alike_itself}
 
 pub data IsAlike (t u : Transaction) : Type 0 where
   one : u ≡ t → IsAlike t u

@@ -13,12 +13,12 @@ use Rattle.fbc_kinds.specs.View.{View, is_committed_state, next_of}
 use Rattle.fbc_kinds.proofs.Meanings.{is_standing, standing_versions-meaning_with}
 use Rattle.fbc_kinds.proofs.Heads.{both_pass}
 use Rattle.fbc_kinds.proofs.Tests.{same_from_test, test_of_different}
-use Rattle.fbc_views.specs.Edited.{IsOfShape}
-use Rattle.fbc_views.proofs.NextMeaning.{not_committed}
-use Rattle.fbc_rows.specs.Open.{AreOpen, IsClosed}
-use Rattle.fbc_rows.proofs.ChainNumbers.{chain_begun}
-use Rattle.fbc_rows.proofs.Finds.{found_in}
-use Rattle.fbc_rows.proofs.Living.{found_lives, open_transaction_is}
+use Rattle.fbc_page_edits.specs.Edited.{IsOfShape}
+use Rattle.fbc_page_edits.proofs.NextMeaning.{not_committed}
+use Rattle.fbc_version_edits.specs.Open.{AreOpen, IsClosed}
+use Rattle.fbc_version_edits.proofs.ChainNumbers.{chain_begun}
+use Rattle.fbc_version_edits.proofs.Finds.{found_in}
+use Rattle.fbc_version_edits.proofs.Living.{found_lives, open_transaction_is}
 use Rattle.fbc_runs.specs.Reading.{Gains}
 use Rattle.fbc_runs.proofs.Numbers.{first_in}
 use Rattle.fbc_runs.proofs.Pushed.{committed_push, find_push, held_push}
@@ -26,7 +26,7 @@ use Rattle.fbc_meanings.specs.Beside.{IsApart}
 use Rattle.fbc_meanings.proofs.Committing.{other_of_more, own_of_more, settled_at}
 use Rattle.fbc_meanings.proofs.Older.{chain_below_next}
 
--- lists that two tests agree on
+-- Lists that two tests agree on.
 filter_same : (test other : Version → Bool) (versions : List Version) → All (λ v. test v ≡ other v) versions → filter test versions ≡ filter other versions
 filter_same test other [] all = refl
 filter_same test other (version ∷ older) all =
@@ -35,7 +35,7 @@ filter_same test other (version ∷ older) all =
     λ i. if here i then version ∷ rest i else rest i
 
 module _ (view : View) (living : List Transaction) (t : Transaction) where
-  -- the numbers before its own have the transactions that they had
+  -- The numbers before its own have the transactions that they had.
   before_same : (count : ℕ) → count < t.number → transactions_up_to view (t ∷ living) count ≡ transactions_up_to view living count
   before_same zero lt = refl
   before_same (suc count) lt =
@@ -44,7 +44,7 @@ module _ (view : View) (living : List Transaction) (t : Transaction) where
       let here = other_of_more view living t (suc count) differ in
       λ i. rest i ++ here i ∷ []
 
-  -- the versions of lower numbers that stand
+  -- The versions of lower numbers that stand.
   pub lower_stand : (versions : List Version) → All (λ (v : Version). v.number < t.number) versions → filter (is_standing view (t ∷ living)) versions ≡ filter (is_standing view living) versions
   lower_stand versions all =
       filter_same (is_standing view (t ∷ living)) (is_standing view living) versions
@@ -90,7 +90,7 @@ module _ (view : View) (living : List Transaction) (t : Transaction) where
         ∙ all
 
 module _ (shape : Shape) (view : View) (living : List Transaction) (of_shape : IsOfShape shape view) (sound : IsSound view) where
-  -- the versions that stand in a row have lower numbers than the next one
+  -- The versions that stand in a row have lower numbers than the next one.
   pub none_has_next : (relation row : ℕ) (version : Version) → Contains (standing_versions (meaning_with living view) relation row) version → version.number < next_of view
   none_has_next relation row version at =
       All-contains (λ (v : Version). v.number < next_of view) (filter (is_standing view living) (chain view relation row)) version

@@ -11,30 +11,30 @@ use Rattle.fbc_kinds.specs.Machine.{Machine, after_change, is_held, is_open_of_o
 use Rattle.fbc_kinds.specs.Meaning.{MeanTheSame, meaning_with}
 use Rattle.fbc_kinds.specs.View.{View, is_empty, is_top, next_of}
 use Rattle.fbc_kinds.proofs.Meanings.{is_standing}
-use Rattle.fbc_views.specs.Alike.{HaveOtherChains, HaveSameStates}
-use Rattle.fbc_views.specs.Edited.{with_page}
-use Rattle.fbc_views.specs.Facing.{IsRowAt}
-use Rattle.fbc_rows.specs.Forms.{IsOver, IsOwnAgain}
-use Rattle.fbc_rows.specs.Open.{IsChangeDone, IsClosed, IsMaker}
-use Rattle.fbc_rows.specs.Puts.{IsPutIn}
-use Rattle.fbc_rows.proofs.ChainNumbers.{AreBegun, IsBegun, chain_begun}
-use Rattle.fbc_rows.proofs.Changes.{change_over, change_own, put_above}
-use Rattle.fbc_rows.proofs.Coming.{not_of_other}
-use Rattle.fbc_rows.proofs.Frames.{chain_of_top, other_chains, row_before_stands}
-use Rattle.fbc_rows.proofs.InFront.{changed_by, done_at}
-use Rattle.fbc_rows.proofs.Living.{open_transaction_is}
-use Rattle.fbc_rows.proofs.NoLinkForms.{own_unlinked}
-use Rattle.fbc_rows.proofs.OneCell.{next_same, one_cell_put, state_same}
-use Rattle.fbc_rows.proofs.Over.{over_chain, over_unlinked, own_relation}
-use Rattle.fbc_rows.proofs.OwnChain.{own_chain}
-use Rattle.fbc_rows.proofs.Standing.{committed_stands, own_stands, standing_first}
+use Rattle.fbc_page_edits.specs.Alike.{HaveOtherChains, HaveSameStates}
+use Rattle.fbc_page_edits.specs.Edited.{with_page}
+use Rattle.fbc_page_edits.specs.Facing.{IsRowAt}
+use Rattle.fbc_version_edits.specs.Forms.{IsOver, IsOwnAgain}
+use Rattle.fbc_version_edits.specs.Open.{IsChangeDone, IsClosed, IsMaker}
+use Rattle.fbc_version_edits.specs.Puts.{IsPutIn}
+use Rattle.fbc_version_edits.proofs.ChainNumbers.{AreBegun, IsBegun, chain_begun}
+use Rattle.fbc_version_edits.proofs.Changes.{change_over, change_own, put_above}
+use Rattle.fbc_version_edits.proofs.Coming.{not_of_other}
+use Rattle.fbc_version_edits.proofs.Frames.{chain_of_top, other_chains, row_before_stands}
+use Rattle.fbc_version_edits.proofs.InFront.{changed_by, done_at}
+use Rattle.fbc_version_edits.proofs.Living.{open_transaction_is}
+use Rattle.fbc_version_edits.proofs.NoLinkForms.{own_unlinked}
+use Rattle.fbc_version_edits.proofs.OneCell.{next_same, one_cell_put, state_same}
+use Rattle.fbc_version_edits.proofs.Over.{over_chain, over_unlinked, own_relation}
+use Rattle.fbc_version_edits.proofs.OwnChain.{own_chain}
+use Rattle.fbc_version_edits.proofs.Standing.{committed_stands, own_stands, standing_first}
 use Rattle.fbc_runs.specs.Orderly.{OwnersDiffer}
 use Rattle.fbc_runs.specs.Reading.{ReadsAs}
 use Rattle.fbc_runs.proofs.ChangesRead.{change_reads}
 use Rattle.fbc_meanings.proofs.DoneBeside.{done_too}
 use Rattle.fbc_meanings.proofs.Steps.{change_leaves, step_reads}
 
--- the owner's change is done by the machine, and the later meaning reads as what the machine is then
+-- The owner's change is done by the machine, and the later meaning reads as what the machine is then.
 pub record IsChanged (m : Machine) (who relation row : ℕ) (value : Option (List ℕ)) (later : Machine) : Type 0 where
   pub done : IsChangeDone m who relation row
   pub reads : ReadsAs later (after_change m who relation row value (open_transaction m who))

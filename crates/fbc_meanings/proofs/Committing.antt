@@ -11,16 +11,16 @@ use Rattle.fbc_kinds.specs.Meaning.{made_of, meaning_with, settled, transaction_
 use Rattle.fbc_kinds.specs.View.{View, is_committed_state, next_of}
 use Rattle.fbc_kinds.proofs.Meanings.{number_of-transaction_of}
 use Rattle.fbc_kinds.proofs.Tests.{and_fails_left, and_fails_right, differ_from_test, same_from_test, test_of_different, test_of_same}
-use Rattle.fbc_views.specs.Alike.{HaveSameChains}
-use Rattle.fbc_rows.specs.Open.{IsClosed}
-use Rattle.fbc_rows.proofs.Living.{IsWho, living_one, settled_one, who_is}
+use Rattle.fbc_page_edits.specs.Alike.{HaveSameChains}
+use Rattle.fbc_version_edits.specs.Open.{IsClosed}
+use Rattle.fbc_version_edits.proofs.Living.{IsWho, living_one, settled_one, who_is}
 use Rattle.fbc_runs.proofs.EndedOnes.{others_stay, own_ends}
 use Rattle.fbc_meanings.specs.Beside.{IsApart}
 use Rattle.fbc_meanings.proofs.AlikeOnes.{AreAlike, IsAlike, all_stand_alike, both_committed, one, push_alike}
 use Rattle.fbc_meanings.proofs.MarkedOnes.{one_as}
 use Rattle.fbc_meanings.proofs.Shown.{ShowTheSame, stand_alike_shows}
 
--- a number that no open transaction has is at its end
+-- A number that no open transaction has is at its end.
 pub settled_at : (view : View) (living : List Transaction) (number : ℕ) → IsClosed living number → transaction_of view living number ≡ settled view number
 settled_at view living number closed = go (who_is view living number)
   where
@@ -28,7 +28,7 @@ settled_at view living number closed = go (who_is view living number)
     go (living_one at) = absurd (closed (transaction_of view living number) at (number_of-transaction_of view living number))
     go (settled_one none same) = same
 
--- the open transactions and one more: the one has its number, each other number is of the others
+-- The open transactions and one more: the one has its number, each other number is of the others.
 pub own_of_more : (view : View) (living : List Transaction) (t : Transaction) (number : ℕ) → t.number ≡ number → transaction_of view (t ∷ living) number ≡ t
 own_of_more view living t number same =
     ap (λ b. unwrap_or (if b then Some t else find (λ (u : Transaction). u.number == number) living) (settled view number)) (test_of_same t.number number same)
@@ -37,7 +37,7 @@ pub other_of_more : (view : View) (living : List Transaction) (t : Transaction) 
 other_of_more view living t number differ =
     ap (λ b. unwrap_or (if b then Some t else find (λ (u : Transaction). u.number == number) living) (settled view number)) (test_of_different t.number number differ)
 
--- one that is apart is not what the others have
+-- One that is apart is not what the others have.
 pub not_own : (view : View) (living : List Transaction) (t : Transaction) → IsApart living t → (number : ℕ) → is_open_of t.owner (transaction_of view living number) ≡ false
 not_own view living t apart number = go (who_is view living number)
   where

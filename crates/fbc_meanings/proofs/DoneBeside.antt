@@ -7,19 +7,19 @@ use Rattle.fbc_kinds.specs.declared.snapshots.Transaction.{Transaction}
 use Rattle.fbc_kinds.specs.Chain.{Version}
 use Rattle.fbc_kinds.specs.Machine.{Machine, is_held, is_open_of_other, newest, open_transaction, reply_in, standing_versions}
 use Rattle.fbc_kinds.specs.Meaning.{IsSameOpen, IsSameTransaction}
-use Rattle.fbc_rows.specs.Open.{IsChangeDone}
-use Rattle.fbc_rows.proofs.Coming.{change_done}
+use Rattle.fbc_version_edits.specs.Open.{IsChangeDone}
+use Rattle.fbc_version_edits.proofs.Coming.{change_done}
 use Rattle.fbc_runs.specs.Orderly.{OwnersDiffer}
 use Rattle.fbc_runs.specs.Reading.{IsNewestOrLacks, ReadsAs}
 use Rattle.fbc_runs.proofs.Opens.{open_of_others}
 
--- the owner has an open transaction there too
+-- The owner has an open transaction there too.
 pub record IsFoundToo (m : Machine) (who : ℕ) (t : Transaction) : Type 0 where
   pub other : Transaction
   pub found : open_transaction m who ≡ Some other
   pub same : IsSameTransaction t other
 
--- the row has the same newest version there
+-- The row has the same newest version there.
 record HasVersion (m : Machine) (relation row : ℕ) (version : Version) : Type 0 where
   pub older : List Version
   pub stands : standing_versions m relation row ≡ version ∷ older
@@ -32,7 +32,7 @@ module _ (a m : Machine) (reads : ReadsAs a m) (who : ℕ) (t : Transaction) (fo
       go None is same = absurd same
       go (Some u) is same = record { other = u; found = is; same = same }
 
-  -- what is answered to every owner with an open transaction
+  -- What is answered to every owner with an open transaction.
   pub answered_too : (answer : Reply) → answer ≡ reply_in (open_transaction m who) (λ u. answer)
   answered_too answer = sym (ap (λ o. reply_in o (λ u. answer)) found_too.found)
 
@@ -44,7 +44,7 @@ module _ (a m : Machine) (reads : ReadsAs a m) (who : ℕ) (t : Transaction) (fo
         go [] is first = let both : None ≡ Some version = sym (ap newest is) ∙ first in cc
         go (one ∷ rest) is first = record { older = rest; stands = is ∙ ap (λ v. v ∷ rest) (same_Some one version (sym (ap newest is) ∙ first)) }
 
-    -- a change is done where it is done to the one that reads so
+    -- A change is done where it is done to the one that reads so.
     pub done_too : OwnersDiffer m.transactions → is_held t.snapshot version.number ≡ true → is_some version.value ≡ true → is_open_of_other a.transactions who version.number ≡ false → IsChangeDone m who relation row
     done_too differ held some mine =
         change_done m who relation row found_too.other found_too.found version has_too.older has_too.stands (sym (found_too.same.snapshot version.number) ∙ held) some

@@ -11,10 +11,10 @@ use Rattle.fbc_kinds.specs.Meaning.{meaning_with}
 use Rattle.fbc_kinds.specs.Sound.{IsSound}
 use Rattle.fbc_kinds.specs.View.{View, is_committed_state, next_of}
 use Rattle.fbc_kinds.proofs.Meanings.{is_standing, standing_versions-meaning_with}
-use Rattle.fbc_views.specs.Edited.{IsOfShape}
-use Rattle.fbc_rows.specs.Open.{AreOpen}
-use Rattle.fbc_rows.proofs.ChainNumbers.{chain_begun}
-use Rattle.fbc_rows.proofs.Living.{open_transaction_is}
+use Rattle.fbc_page_edits.specs.Edited.{IsOfShape}
+use Rattle.fbc_version_edits.specs.Open.{AreOpen}
+use Rattle.fbc_version_edits.proofs.ChainNumbers.{chain_begun}
+use Rattle.fbc_version_edits.proofs.Living.{open_transaction_is}
 use Rattle.fbc_runs.specs.Orderly.{HasNewest, IsInFront}
 use Rattle.fbc_runs.proofs.Numbers.{first_or_later}
 use Rattle.fbc_meanings.proofs.Older.{older_committed, older_of}
@@ -26,7 +26,7 @@ module _ (view : View) (living : List Transaction) (number : ℕ) (fails : is_co
   abbrev AreCommitted : List Version → Type 0
   AreCommitted versions = All (λ (v : Version). is_committed_state (state_of view v.number) ≡ true) versions
 
-  -- it is none of the committed ones
+  -- It is none of the committed ones.
   not_older : (older : List Version) → AreCommitted older → (version : Version) → Contains (stands older) version → ¬ (version.number ≡ number)
   not_older older all version at same =
       let committed = All-contains (λ (v : Version). is_committed_state (state_of view v.number) ≡ true) (stands older) version

@@ -7,18 +7,18 @@ use Rattle.fbc_kinds.specs.Chain.{Version, below, chain, chain_from, row_cell, s
 use Rattle.fbc_kinds.specs.Reach.{LinksTo, ReachesCell}
 use Rattle.fbc_kinds.specs.Sound.{IsSound}
 use Rattle.fbc_kinds.specs.View.{View, cell_at, is_committed_state, is_empty, is_top, next_of}
-use Rattle.fbc_views.proofs.SameChains.{row_cell_stands, row_top_reached}
-use Rattle.fbc_views.proofs.SameVersions.{back_holds, reached_holds}
-use Rattle.fbc_rows.proofs.Chains.{below_none, below_reached, below_some, link_of}
+use Rattle.fbc_page_edits.proofs.SameChains.{row_cell_stands, row_top_reached}
+use Rattle.fbc_page_edits.proofs.SameVersions.{back_holds, reached_holds}
+use Rattle.fbc_version_edits.proofs.Chains.{below_none, below_reached, below_some, link_of}
 
--- the versions below the top
+-- The versions below the top.
 abbrev pub older_of : List Version → List Version
 older_of [] = []
 older_of (version ∷ older) = older
 
 module _ (view : View) (sound : IsSound view) (P : Version → Type 0)
     (linked : (relation page cell back_page back_cell : ℕ) (version back : Cell) → LinksTo view relation page cell version back_page back_cell → cell_at view back_page back_cell ≡ Some back → P (version_of back)) where
-  -- it holds of all that a version that is reached leads to
+  -- It holds of all that a version that is reached leads to.
   all_below : (count relation page cell : ℕ) (version : Cell) → ReachesCell view relation page cell → cell_at view page cell ≡ Some version → All P (versions_from view count (below view version))
   all_below zero relation page cell version reached stands = All-nil P
   all_below (suc count) relation page cell version reached stands = go (version.back_page == 0) refl (λ w. all_below count relation version.back_page version.back_cell w)
@@ -63,7 +63,7 @@ module _ (view : View) (sound : IsSound view) (P : Version → Type 0)
               (all_below version.number relation at.page _ version reached at.stands)
 
 module _ (view : View) (sound : IsSound view) where
-  -- below the top of a chain all is committed
+  -- Below the top of a chain all is committed.
   pub older_committed : (relation row : ℕ) → All (λ (v : Version). is_committed_state (state_of view v.number) ≡ true) (older_of (chain view relation row))
   older_committed =
       all_older view sound (λ (v : Version). is_committed_state (state_of view v.number) ≡ true)
@@ -75,7 +75,7 @@ module _ (view : View) (sound : IsSound view) where
       let same : holder.version ≡ version = (let both : Some holder.version ≡ Some version = sym holder.is.stands ∙ stands in cc) in
       sound.numbers relation holder.sequence page cell version holder.is.named stands (ap (λ (v : Cell). is_empty v.flag) (sym same) ∙ holder.is.holds)
 
-  -- the numbers of a chain are below the next one
+  -- The numbers of a chain are below the next one.
   pub chain_below_next : (relation row : ℕ) → All (λ (v : Version). v.number < next_of view) (chain view relation row)
   chain_below_next =
       all_of_chain view sound (λ (v : Version). v.number < next_of view)

@@ -8,8 +8,8 @@ use Rattle.fbc_kinds.specs.Machine.{is_open}
 use Rattle.fbc_kinds.specs.Meaning.{transaction_of, transactions_up_to}
 use Rattle.fbc_kinds.specs.View.{View}
 use Rattle.fbc_kinds.proofs.Meanings.{number_of-transaction_of, transaction_at}
-use Rattle.fbc_rows.specs.Open.{AreOpen}
-use Rattle.fbc_rows.proofs.Living.{open_lives}
+use Rattle.fbc_version_edits.specs.Open.{AreOpen}
+use Rattle.fbc_version_edits.proofs.Living.{open_lives}
 use Rattle.fbc_runs.specs.Orderly.{OwnersDiffer}
 
 module _ (view : View) (living : List Transaction) where
@@ -23,7 +23,7 @@ module _ (view : View) (living : List Transaction) where
       let counted = transactions_count count in
       same_Some t (transaction_of view living (suc place)) (sym at ∙ transaction_at view living count place (rw (← counted) within))
 
-  -- the open ones of one owner stand at one place
+  -- The open ones of one owner stand at one place.
   pub owners_differ : AreOpen living → (count : ℕ) → OwnersDiffer (transactions_up_to view living count)
   owners_differ open_ones count place other t u first second same =
       let t_is = one_at count place t first.0 in

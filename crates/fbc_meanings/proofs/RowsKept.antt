@@ -9,13 +9,13 @@ use Rattle.fbc_kinds.specs.Meaning.{meaning_with, transactions_up_to}
 use Rattle.fbc_kinds.specs.Sound.{IsSound}
 use Rattle.fbc_kinds.specs.View.{View, next_of}
 use Rattle.fbc_kinds.proofs.Meanings.{is_standing, standing_versions-meaning_with}
-use Rattle.fbc_views.specs.Alike.{HaveOtherChains, HaveSameStates}
-use Rattle.fbc_views.specs.Edited.{IsOfShape}
-use Rattle.fbc_views.specs.Facing.{IsRowAt}
-use Rattle.fbc_rows.proofs.ChainNumbers.{chain_begun}
-use Rattle.fbc_rows.proofs.Frames.{row_at_or_not}
-use Rattle.fbc_rows.proofs.RowsMeant.{IsMeant, rows_meant, same_meant}
-use Rattle.fbc_rows.proofs.Standing.{standing_after, transactions_stay}
+use Rattle.fbc_page_edits.specs.Alike.{HaveOtherChains, HaveSameStates}
+use Rattle.fbc_page_edits.specs.Edited.{IsOfShape}
+use Rattle.fbc_page_edits.specs.Facing.{IsRowAt}
+use Rattle.fbc_version_edits.proofs.ChainNumbers.{chain_begun}
+use Rattle.fbc_version_edits.proofs.Frames.{row_at_or_not}
+use Rattle.fbc_version_edits.proofs.RowsMeant.{IsMeant, rows_meant, same_meant}
+use Rattle.fbc_version_edits.proofs.Standing.{standing_after, transactions_stay}
 use Rattle.fbc_runs.specs.Orderly.{OwnersDiffer}
 use Rattle.fbc_runs.specs.Reading.{IsNewestOrLacks, ReadsAs}
 use Rattle.fbc_runs.proofs.RowReads.{edited_reads}
@@ -25,11 +25,11 @@ newest_itself ts None = tt
 newest_itself ts (Some version) = refl
 
 module _ (shape : Shape) (living : List Transaction) (view after : View) (of_shape : IsOfShape shape view) (sound : IsSound view) where
-  -- the newest version of a chain that stands
+  -- The newest version of a chain that stands.
   abbrev pub newest_standing : View → ℕ → ℕ → Option Version
   newest_standing one relation row = newest (filter (is_standing view living) (chain one relation row))
 
-  -- a row is seen as before, and its newest version is the same, or a settled deletion that is gone
+  -- A row is seen as before, and its newest version is the same, or a settled deletion that is gone.
   pub record IsKeptRow (relation row : ℕ) : Type 0 where
     pub meant : IsMeant shape living view after of_shape sound relation row
     pub lacks : IsNewestOrLacks (transactions_up_to view living (next_of view)) (newest_standing after relation row) (newest_standing view relation row)
@@ -46,7 +46,7 @@ module _ (shape : Shape) (living : List Transaction) (view after : View) (of_sha
   same_row relation row same =
       newest_kept relation row (same_meant shape living view after of_shape sound relation row same) (ap (λ (versions : List Version). newest (filter (is_standing view living) versions)) same)
 
-  -- one row alone changed
+  -- One row alone changed.
   pub one_row : (page cell : ℕ) → HaveOtherChains page cell view after → ((relation row : ℕ) → IsRowAt view relation row page cell → IsKeptRow relation row) → (relation row : ℕ) → IsKeptRow relation row
   one_row page cell others here relation row = go (row_at_or_not view relation row page cell) where
     go : IsRowAt view relation row page cell ⊎ ¬ IsRowAt view relation row page cell → IsKeptRow relation row

@@ -7,9 +7,9 @@ use Rattle.fbc_kinds.specs.Machine.{Machine, Made}
 use Rattle.fbc_kinds.specs.Meaning.{made_of, meaning_with, transactions_up_to}
 use Rattle.fbc_kinds.specs.Sound.{IsSound}
 use Rattle.fbc_kinds.specs.View.{View, next_of}
-use Rattle.fbc_views.specs.Alike.{HaveSameChains, HaveSameStates, ReadAlike}
-use Rattle.fbc_views.proofs.NextMeaning.{more_stand_alike}
-use Rattle.fbc_views.proofs.SameMeaning.{meaning_same, transactions_same}
+use Rattle.fbc_page_edits.specs.Alike.{HaveSameChains, HaveSameStates, ReadAlike}
+use Rattle.fbc_page_edits.proofs.NextMeaning.{more_stand_alike}
+use Rattle.fbc_page_edits.proofs.SameMeaning.{meaning_same, transactions_same}
 use Rattle.fbc_runs.specs.Reading.{ReadsAs}
 use Rattle.fbc_meanings.proofs.Shown.{ShowTheSame, stand_alike_shows}
 
@@ -26,7 +26,7 @@ longer_shows living before after alike sound past numbered =
     (stand_alike_shows rows (transactions_up_to before living (next_of before)) (transactions_up_to before living (next_of after))
     (more_stand_alike living before sound numbered (next_of after) past))
 
--- views with the same chains, states and next number mean one machine
+-- Views with the same chains, states and next number mean one machine.
 pub same_reads : (living : List Transaction) (before after : View) (m : Machine) → HaveSameChains before after → HaveSameStates before after → next_of after ≡ next_of before
     → ReadsAs (meaning_with living before) m → ReadsAs (meaning_with living after) m
 same_reads living before after m chains states next reads = subst (λ a. ReadsAs a m) (sym (meaning_same living before after states chains next)) reads

@@ -5,7 +5,7 @@ use Rattle.fbc_kinds.specs.declared.snapshots.Transaction.{Transaction}
 use Rattle.fbc_kinds.specs.Chain.{see}
 use Rattle.fbc_kinds.specs.Machine.{Machine, Made, committed_numbers, is_held, open_transaction, standing_versions}
 use Rattle.fbc_kinds.specs.Meaning.{IsSameOpen}
-use Rattle.fbc_views.proofs.RolledBack.{StandAlike, standing_same}
+use Rattle.fbc_page_edits.proofs.RolledBack.{StandAlike, standing_same}
 use Rattle.fbc_runs.specs.Reading.{ReadsAs}
 use Rattle.fbc_runs.proofs.RowReads.{RowReads, reads_as, seen_in}
 
@@ -14,7 +14,7 @@ pub record ShowTheSame (a b : Machine) : Type 0 where
   pub committed : (number : ℕ) → is_held (committed_numbers b.transactions) number ≡ is_held (committed_numbers a.transactions) number
   pub versions : (relation row : ℕ) → standing_versions b relation row ≡ standing_versions a relation row
 
--- transactions that stand alike, with the same rows, show the same
+-- Transactions that stand alike, with the same rows, show the same.
 pub stand_alike_shows : (rows : ℕ → ℕ → List Made) (ts us : List Transaction) → StandAlike ts us
     → (let before : Machine = record { rows = rows; transactions = ts } in let after : Machine = record { rows = rows; transactions = us } in ShowTheSame before after)
 stand_alike_shows rows ts us alike = record {

@@ -11,23 +11,23 @@ use Rattle.fbc_kinds.specs.Machine.{Machine, after_change, is_done, newest, open
 use Rattle.fbc_kinds.specs.Meaning.{MeanTheSame, meaning_with}
 use Rattle.fbc_kinds.specs.View.{View, next_of}
 use Rattle.fbc_kinds.proofs.Meanings.{is_standing, standing_versions-meaning_with}
-use Rattle.fbc_views.specs.Alike.{HaveOtherChains, HaveSameStates}
-use Rattle.fbc_views.specs.Edited.{with_page}
-use Rattle.fbc_views.specs.Facing.{IsRowAt}
-use Rattle.fbc_rows.specs.Differences.{IsPlace}
-use Rattle.fbc_rows.specs.Open.{IsMaker}
-use Rattle.fbc_rows.specs.Puts.{IsPutIn}
-use Rattle.fbc_rows.proofs.ChainNumbers.{AreBegun, IsBegun, chain_begun}
-use Rattle.fbc_rows.proofs.Changes.{put_above}
-use Rattle.fbc_rows.proofs.InFront.{one_row, stands_elsewhere, stands_in_front}
-use Rattle.fbc_rows.proofs.OneCell.{here_or_not}
-use Rattle.fbc_rows.proofs.Standing.{own_stands, standing_after, transactions_stay}
+use Rattle.fbc_page_edits.specs.Alike.{HaveOtherChains, HaveSameStates}
+use Rattle.fbc_page_edits.specs.Edited.{with_page}
+use Rattle.fbc_page_edits.specs.Facing.{IsRowAt}
+use Rattle.fbc_version_edits.specs.Differences.{IsPlace}
+use Rattle.fbc_version_edits.specs.Open.{IsMaker}
+use Rattle.fbc_version_edits.specs.Puts.{IsPutIn}
+use Rattle.fbc_version_edits.proofs.ChainNumbers.{AreBegun, IsBegun, chain_begun}
+use Rattle.fbc_version_edits.proofs.Changes.{put_above}
+use Rattle.fbc_version_edits.proofs.InFront.{one_row, stands_elsewhere, stands_in_front}
+use Rattle.fbc_version_edits.proofs.OneCell.{here_or_not}
+use Rattle.fbc_version_edits.proofs.Standing.{own_stands, standing_after, transactions_stay}
 use Rattle.fbc_runs.specs.Orderly.{OwnersDiffer}
 use Rattle.fbc_runs.specs.Reading.{IsNewestOrLacks, ReadsAs}
 use Rattle.fbc_runs.proofs.RowReads.{edited_reads}
 use Rattle.fbc_meanings.proofs.RowsKept.{newest_itself}
 
--- a version more, or a change that is done, leaves the transactions
+-- A version more, or a change that is done, leaves the transactions.
 pub version_leaves : (m : Machine) (maker : Option ℕ) (relation row : ℕ) (value : Option (List ℕ)) → (with_version m maker relation row value).transactions ≡ m.transactions
 version_leaves m None relation row value = refl
 version_leaves m (Some maker) relation row value = refl
@@ -56,7 +56,7 @@ module _ {shape : Shape} {view : View} {number cell : ℕ} {new : Cell} {content
   own_within : t.number ≤ next_of view
   own_within = subst (λ n. n ≤ next_of view) (sym maker.number) within
 
-  -- both have the new version in front of the row
+  -- Both have the new version in front of the row.
   newest_after : newest (standing_versions (meaning_with living after) relation row) ≡ Some (version_of new)
   newest_after =
       ap newest
@@ -71,7 +71,7 @@ module _ {shape : Shape} {view : View} {number cell : ℕ} {new : Cell} {content
       ap newest (stands_in_front living view maker.open_ones t maker.lives own_above own_within relation row (value_of new.flag new.value))
       ∙ ap (λ n. let v : Version = record { number = n; value = value_of new.flag new.value } in Some v) maker.number
 
-  -- the other rows have the versions that they had
+  -- The other rows have the versions that they had.
   elsewhere : (r k : ℕ) → ¬ IsPlace relation row r k → standing_versions (meaning_with living after) r k ≡ standing_versions stepped r k
   elsewhere r k differ =
       let kept = others r k (λ also. differ (one_row view put.sound relation row r k number cell at also)) in
@@ -90,7 +90,7 @@ module _ {shape : Shape} {view : View} {number cell : ℕ} {new : Cell} {content
           let P : ℕ → ℕ → Type 0 = λ r k. newest (standing_versions (meaning_with living after) r k) ≡ newest (standing_versions stepped r k) in
           subst (λ r. P r k) (sym here.0) (subst (λ k. P relation k) (sym here.1) (newest_after ∙ sym newest_stepped))
 
-  -- where the meaning after the step reads as a machine, so does the later meaning
+  -- Where the meaning after the step reads as a machine, so does the later meaning.
   pub step_reads : (first b : Machine) → first ≡ stepped → MeanTheSame first (meaning_with living after) → ReadsAs first b → OwnersDiffer b.transactions → ReadsAs (meaning_with living after) b
   step_reads first b same means reads differ =
       edited_reads stepped (meaning_with living after) b (subst (λ a. ReadsAs a b) same reads) (subst (λ a. MeanTheSame a (meaning_with living after)) same means)

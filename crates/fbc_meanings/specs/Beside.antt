@@ -5,9 +5,9 @@ use Rattle.fbc_kinds.specs.declared.replies.Reply.{Reply}
 use Rattle.fbc_kinds.specs.declared.snapshots.Transaction.{Transaction}
 use Rattle.fbc_kinds.specs.Machine.{IsReply, Machine, MayCome, machine_step}
 use Rattle.fbc_kinds.specs.View.{View}
-use Rattle.fbc_rows.specs.Open.{IsClosed}
+use Rattle.fbc_version_edits.specs.Open.{IsClosed}
 use Rattle.fbc_runs.specs.Reading.{ReadsAs}
-use Rattle.fbc_views.specs.Facing.{IsRowAt}
+use Rattle.fbc_page_edits.specs.Facing.{IsRowAt}
 
 -- A transaction is apart from the open ones: none of them has its owner or its number.
 pub record IsApart (living : List Transaction) (t : Transaction) : Type 0 where

@@ -3,7 +3,7 @@
 ghost use Rattle.fbc_kinds.specs.Meaning.{meaning_with};
 ghost use Rattle.fbc_kinds.specs.View.{View};
 ghost use Rattle.fbc_kinds.specs.declared.snapshots.Transaction.{Transaction};
-ghost use Rattle.fbc_rows.specs.Open.{AreOpen};
+ghost use Rattle.fbc_version_edits.specs.Open.{AreOpen};
 ghost use Rattle.fbc_runs.specs.Orderly.{OwnersDiffer};
 ghost use Rattle.std.specs.Prelude.{List};
 

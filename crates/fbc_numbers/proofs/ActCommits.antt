@@ -15,7 +15,7 @@ use Rattle.fbc_closed_cuts.proofs.CutLaws.{no-new-views}
 use Rattle.fbc_numbers.specs.Numbers.{CommitsGrow, IsWithinCut, is_committed_in}
 use Rattle.fbc_numbers.proofs.CutFacts.{all-closed, all-view, all_drafts, committed-newest, kept-committed, no_draft, none-closed}
 
--- the cuts before keep inclusions
+-- The cuts before keep inclusions.
 one_within : (page : ℕ) (cut wider : Cut) → IsWithinCut cut wider → IsWithinCut (with_one page cut) (with_one page wider)
 one_within page cut wider within p = go (p == page) where
   go : (b : Bool) → (if b then true else cut p) ≡ true → (if b then true else wider p) ≡ true
@@ -51,13 +51,13 @@ module _ (shape : Shape) (file : View) (before : History) (moment : Moment) (leg
       (grow (earlier cut) (earlier wider) number (same cut closed).closed (same wider wide_closed).closed (before_within moment.event.act moment.landed cut wider within)
       (subst (λ (v : View). is_committed_in v number ≡ true) (one_view cut closed) is))
 
-  -- what is committed in the newest pages was so before
+  -- What is committed in the newest pages was so before.
   pub newest-before : (number : ℕ) → is_committed_in (newest_of after) number ≡ true → is_committed_in (newest_of w) number ≡ true
   newest-before number is =
       committed-newest w grow number (earlier (all_drafts after)) (same (all_drafts after) (all-closed after)).closed
       (subst (λ (v : View). is_committed_in v number ≡ true) (one_view (all_drafts after) (all-closed after)) (subst (λ (v : View). is_committed_in v number ≡ true) (sym (all-view after)) is))
 
-  -- what was committed in the file still is
+  -- What was committed in the file still is.
   pub kept-after : (number : ℕ) → is_committed_in w.kept number ≡ true → is_committed_in after.kept number ≡ true
   kept-after number is =
       subst (λ (v : View). is_committed_in v number ≡ true) (sym (one_view no_draft (none-closed after)))

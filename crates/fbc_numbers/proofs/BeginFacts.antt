@@ -9,10 +9,12 @@ use Rattle.fbc_kinds.specs.View.{View, next_of, tip_of}
 use Rattle.fbc_levels.specs.declared.levels.Level.TheVariants.{Ex}
 use Rattle.fbc_world.specs.declared.drafts.Draft.{Draft}
 use Rattle.fbc_world.specs.History.{History}
-use Rattle.fbc_world.specs.Holdings.{is_draft_of, page_resource}
+use Rattle.fbc_world.specs.Holdings.{is_draft_of}
+use Rattle.fbc_levels.specs.Resources.{page_resource}
 use Rattle.fbc_world.specs.PageCell.{newest_in}
 use Rattle.fbc_world.specs.World.{World, newest_of, world_of}
-use Rattle.fbc_legal.specs.Coherent.{IsDraftHeld, is_usable}
+use Rattle.fbc_legal.specs.Coherent.{IsDraftHeld}
+use Rattle.fbc_levels.specs.Levels.{is_page_level}
 use Rattle.fbc_legal.specs.Guards.{MayBegin}
 use Rattle.fbc_legal.specs.Legal.{IsLegal}
 use Rattle.fbc_legal.specs.Scene.{Scene, scene_of}
@@ -29,7 +31,7 @@ use Rattle.fbc_numbers.proofs.CutFacts.{all-view, all_drafts, all-closed, clash,
 use Rattle.fbc_numbers.proofs.NamedTips.{next_grown, next_in, tip_grown}
 use Rattle.fbc_numbers.proofs.OpensNotDead.{next_within}
 
--- who has the header in EX sees the newest one in each view that has all its drafts
+-- Who has the header in EX sees the newest one in each view that has all its drafts.
 header_page : (owner : ℕ) (kept : Option Page) (draft : Option Draft) (b : Bool) → IsOwnDraft owner draft → (is_draft_of owner draft ≡ true → b ≡ true) → (if b then newest_in kept draft else kept) ≡ newest_in kept draft
 header_page owner kept None true own has = refl
 header_page owner kept None false own has = refl
@@ -43,7 +45,7 @@ module _ (at : Scene) (u : IsUpheld at) (owner : ℕ) where
   newest-header : w.granted owner (page_resource 0) ≡ Ex → (cut : Cut) → HasOwnDrafts w owner cut → view w cut 0 ≡ newest_of w 0
   newest-header exclusive cut has = header_page owner (w.kept 0) (w.draft 0) (cut 0) (exclusive-own w u.coherent owner 0 exclusive) (has.own 0)
 
-  -- the next number of the file is at most that of a view
+  -- The next number of the file is at most that of a view.
   next-kept : (cut : Cut) → next_of w.kept ≤ next_of (view w cut)
   next-kept cut = go (cut 0) where
     go : (b : Bool) → next_of w.kept ≤ next_in (if b then newest_of w 0 else w.kept 0)
@@ -75,7 +77,7 @@ module _ (at : Scene) (u : IsUpheld at) (owner : ℕ) where
     pub begin-new : (cut : Cut) → next_of (view w cut) ≤ number
     begin-new cut = subst (λ n. next_of (view w cut) ≤ n) may.next (next_within at u cut)
 
-    -- the header is in EX of one owner alone
+    -- The header is in EX of one owner alone.
     pub begin-greatest : IsNumbered at → (other : ℕ) (t : Transaction) → w.transaction other ≡ Some t → t.number < number
     begin-greatest k other t is = go (k.stand other t is).begun where
       apart : owner ≢ other
@@ -83,9 +85,9 @@ module _ (at : Scene) (u : IsUpheld at) (owner : ℕ) where
 
       go : IsRaised w other t.number ⊎ IsUnraised w other t.number → t.number < number
       go (inl raised) = subst (λ n. t.number < n) may.next raised.newest
-      go (inr next) = absurd (clash (is_usable (w.granted other (page_resource 0))) (rw next.exclusive refl) (excluded w u.coherent owner other (page_resource 0) apart may.exclusive))
+      go (inr next) = absurd (clash (is_page_level (w.granted other (page_resource 0))) (rw next.exclusive refl) (excluded w u.coherent owner other (page_resource 0) apart may.exclusive))
 
-    -- every transaction inventory page is pinned, so nobody has a mark in a draft
+    -- Every transaction inventory page is pinned, so nobody has a mark in a draft.
     module _ (k : IsNumbered at) (pins : PinsAreHeld w) (committed : ℕ) where
       drafter-holds : (other page : ℕ) → is_draft_of other (w.draft page) ≡ true → w.granted other (page_resource page) ≡ Ex
       drafter-holds other page its = go (w.draft page) its (u.coherent.drafts page) where
@@ -113,7 +115,7 @@ module _ (at : Scene) (u : IsUpheld at) (owner : ℕ) where
         go false newest true kept = absurd (clash _ (grown kept) newest)
         go false newest false kept = refl
 
--- where a legal history led
+-- Where a legal history led.
 pub legal-begin-committed : (shape : Shape) (file : View) (past : History) (owner number word other : ℕ) → IsLegal shape file past → IsUpheld (scene_of shape file past) → IsNumbered (scene_of shape file past)
     → MayBegin (scene_of shape file past) owner number word → is_committed_in (newest_of (world_of shape file past)) other ≡ is_committed_in (world_of shape file past).kept other
 legal-begin-committed shape file past owner number word other legal u k may = begin-committed (scene_of shape file past) u owner number word may k (IsRanked-legal shape file past legal).pins other

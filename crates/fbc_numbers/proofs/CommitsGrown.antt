@@ -19,7 +19,7 @@ use Rattle.fbc_numbers.specs.Numbers.{CommitsGrow, IsWithinCut, OpensAreUncommit
 use Rattle.fbc_numbers.proofs.CutFacts.{clash}
 use Rattle.fbc_numbers.proofs.EditCommits.{committed_by, mark_of, stays-committed, with-closed, with-page, without-closed, without-page}
 
--- before the first event each view is the file
+-- Before the first event each view is the file.
 pub grow-start : (shape : Shape) (file : View) → CommitsGrow (world_of shape file [])
 grow-start shape file cut wider number closed wide_closed within is = subst (λ (v : View). is_committed_in v number ≡ true) (fun_ext (λ page. go (cut page) (wider page) page)) is where
   go : (b c : Bool) (page : ℕ) → (if b then file page else file page) ≡ (if c then file page else file page)

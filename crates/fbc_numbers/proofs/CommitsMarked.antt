@@ -3,6 +3,7 @@
 use Rattle.std.proofs.Common.{◌≡◌, ◌∙◌, ◌==◌, ◌&&◌, ◌∷◌, ◌/◌, ◌%◌, ℕ, Bool, true, false, if◌then◌else◌, Option, Some, None, is_some, refl, sym, ap, subst, arith}
 use Rattle.std.specs.Option.{unwrap_or}
 use Rattle.std.proofs.lemmas.Bool.Decides.{nat_tests}
+use Rattle.std.proofs.lemmas.Bool.{false_from_ne_true}
 use Rattle.std.proofs.lemmas.Option.{same_Some}
 use Rattle.fbc_kinds.specs.declared.edits.Edit.{Edit}
 use Rattle.fbc_kinds.specs.declared.edits.Edit.TheVariants as edit
@@ -17,7 +18,7 @@ use Rattle.fbc_kinds.specs.Meaning.{meaning_of}
 use Rattle.fbc_kinds.specs.View.{View, is_committed_state, size_of, state_in, tip_of}
 use Rattle.fbc_levels.specs.declared.levels.Level.{Level}
 use Rattle.fbc_levels.specs.declared.resources.Resource.{Resource}
-use Rattle.fbc_views.proofs.HeaderStands.{size_is}
+use Rattle.fbc_page_edits.proofs.HeaderStands.{size_is}
 use Rattle.fbc_world.specs.declared.events.Act.{Act}
 use Rattle.fbc_world.specs.declared.events.Act.TheVariants.{Die, Grant, Local, Write}
 use Rattle.fbc_world.specs.declared.events.LocalEvent.TheVariants as local
@@ -34,21 +35,21 @@ use Rattle.fbc_closed_cuts.specs.Upheld.{IsMarkDrafted, IsUpheld}
 use Rattle.fbc_closed_cuts.specs.Views.{is_edit}
 use Rattle.fbc_numbers.specs.Numbers.{CommitsAreMarked, CommitsGrow, IsMarkedBy, IsTrueMark, MarksAreTrue, OpensAreUncommitted, is_committed_in}
 use Rattle.fbc_numbers.proofs.ActCommits.{kept-after, newest-before}
-use Rattle.fbc_numbers.proofs.CutFacts.{all-closed, all-view, all_drafts, clash, false_from, no_draft, none-closed}
+use Rattle.fbc_numbers.proofs.CutFacts.{all-closed, all-view, all_drafts, clash, no_draft, none-closed}
 use Rattle.fbc_numbers.proofs.EditCommits.{committed_by, mark_of, newest-edited}
 use Rattle.fbc_numbers.proofs.NamedTips.{tip_grown}
 use Rattle.fbc_numbers.proofs.PageDrafts.{dead-kept, written-kept}
 use Rattle.fbc_numbers.proofs.PageStates.{tip_in}
 use Rattle.fbc_numbers.proofs.StatesNamed.{named-state, same-named}
 
--- the sizes of the newest pages and of the file
+-- The sizes of the newest pages and of the file.
 pub newest-size : (at : Scene) → IsUpheld at → size_of (newest_of at.world) ≡ at.shape.size
 newest-size at u = subst (λ (v : View). size_of v ≡ at.shape.size) (all-view at.world) (size_is at.shape _ (u.of_shape (all_drafts at.world) (all-closed at.world)) (u.sound (all_drafts at.world) (all-closed at.world)))
 
 pub kept-size : (at : Scene) → IsUpheld at → size_of at.world.kept ≡ at.shape.size
 kept-size at u = size_is at.shape _ (u.of_shape no_draft (none-closed at.world)) (u.sound no_draft (none-closed at.world))
 
--- the page of an owner's mark, which is its draft
+-- The page of an owner's mark, which is its draft.
 pub record IsMarkOn (w : World) (owner page : ℕ) : Type 0 where
   pub marked : w.marked owner ≡ Some page
   pub draft : is_draft_of owner (w.draft page) ≡ true
@@ -61,7 +62,7 @@ module _ (at : Scene) (u : IsUpheld at) (true_marks : MarksAreTrue at.shape at.w
   abbrev w : World
   w = at.world
 
-  -- the page of a mark of the number
+  -- The page of a mark of the number.
   pub record IsMarkOf (other page : ℕ) : Type 0 where
     pub on : IsMarkOn w other page
     pub named : tip_of w.kept (number / tip_numbers at.shape.size) ≡ Some page
@@ -79,7 +80,7 @@ module _ (at : Scene) (u : IsUpheld at) (true_marks : MarksAreTrue at.shape at.w
         },
       )
 
-  -- with its owner the mark is gone from the newest pages
+  -- With its owner the mark is gone from the newest pages.
   mark-lost : size_of (newest_of (dead w owner)) ≡ at.shape.size → GrowsInto (w.kept 0) (newest_of (dead w owner) 0) → IsMarkedBy w owner number → is_committed_in (newest_of (dead w owner)) number ≡ true → is_committed_in w.kept number ≡ true
   mark-lost size headers m committed =
       let mark = mark-of owner m in
@@ -101,7 +102,7 @@ module _ (at : Scene) (u : IsUpheld at) (true_marks : MarksAreTrue at.shape at.w
       go true same = subst (λ o. tip_in o (number / tip_numbers at.shape.size) ≡ Some page) (sym (written-kept w owner page its 0 same)) (tip_grown (w.kept 0) (newest_of w 0) u.headers (number / tip_numbers at.shape.size) page named)
       go false apart = rw apart named
 
-    -- with its draft the mark is in the file
+    -- With its draft the mark is in the file.
     mark-written : IsMarkOf owner page → is_committed_in (written w owner page).kept number ≡ true
     mark-written mark =
         let shown : state_in ((written w owner page).kept page) (number % tip_numbers at.shape.size) ≡ Some Committed = rw (written-kept w owner page its page (grind (arith, nat_tests))) mark.shows in
@@ -127,7 +128,7 @@ module _ (at : Scene) (u : IsUpheld at) (true_marks : MarksAreTrue at.shape at.w
     go true its false begins = m.open_is
     go false its b begins = m.open_is
 
-  -- a number that is committed afterwards, and not in the file, has its mark still
+  -- A number that is committed afterwards, and not in the file, has its mark still.
   pub left-acted : (act : Act) (landed : Bool) → Guard at owner act → is_plain act ≡ true → is_edit act ≡ false → size_of (newest_of (acted at.shape w owner act landed)) ≡ at.shape.size → size_of (acted at.shape w owner act landed).kept ≡ at.shape.size
       → GrowsInto ((acted at.shape w owner act landed).kept 0) (newest_of (acted at.shape w owner act landed) 0) → (other : ℕ) → IsMarkedBy w other number → is_committed_in (newest_of (acted at.shape w owner act landed)) number ≡ true
       → is_committed_in (acted at.shape w owner act landed).kept number ≡ false → IsMarkedBy (acted at.shape w owner act landed) other number
@@ -150,7 +151,7 @@ module _ (shape : Shape) (file : View) (before : History) (owner : ℕ) (act : A
   pub marked-acted : CommitsAreMarked (world_of shape file (happens owner act landed ∷ before))
   marked-acted number committed none =
       let was = newest-before shape file before (happens owner act landed) legal no_edit grow number committed in
-      let out = false_from (is_committed_in (world_of shape file before).kept number) (λ kept. clash _ (kept-after shape file before (happens owner act landed) legal no_edit grow number kept) none) in
+      let out = false_from_ne_true (is_committed_in (world_of shape file before).kept number) (λ kept. clash _ (kept-after shape file before (happens owner act landed) legal no_edit grow number kept) none) in
       let by = marked number was out in (
         by.0,
         left-acted (scene_of shape file before) u true_marks owner number act landed legal.1.guard plain no_edit (newest-size (scene_of shape file (happens owner act landed ∷ before)) v)
@@ -165,7 +166,7 @@ module _ (shape : Shape) (file : View) (before : History) (owner page : ℕ) (e 
   abbrev world : World
   world = scene.world
 
-  -- another's mark stays
+  -- Another's mark stays.
   other-mark : (x : Edit) (number other : ℕ) → IsMarkedBy world other number → IsMarkedBy (with_edit world owner page x (Some content)) other number
   other-mark x number other m = go (other == owner) refl where
     bare : world.marked owner ≡ None → other == owner ≡ true → ⊥
@@ -181,7 +182,7 @@ module _ (shape : Shape) (file : View) (before : History) (owner page : ℕ) (e 
     go true its = absurd (bare (unmarked legal) its)
     go false apart = record { t = m.t; open_is = rw apart m.open_is; number_is = m.number_is; marked = rw apart m.marked }
 
-  -- the mark that is made
+  -- The mark that is made.
   own-mark : (number marks : ℕ) → number == marks ≡ true → IsCommitMark scene owner page marks → IsMarkedBy (with_edit world owner page (edit.Mark marks Committed) (Some content)) owner number
   own-mark number marks same row =
       record {

@@ -35,7 +35,7 @@ module _ (seen : View) (number : ℕ) where
       at false apart found = absurd cc
     go false is held = absurd cc
 
-  -- each is committed
+  -- Each is committed.
   pub held-committed : (count : ℕ) → is_held (committed_numbers (transactions_up_to seen [] count)) number ≡ true → is_committed_in seen number ≡ true
   held-committed zero held = absurd cc
   held-committed (suc count) held =

@@ -1,6 +1,7 @@
 -- The views of no draft and of all drafts, and what is committed in them.
 use Rattle.std.proofs.Common.{◌≡◌, ◌&&◌, ℕ, Bool, true, false, if◌then◌else◌, Option, Some, None, is_some, refl, subst}
 use Rattle.std.proofs.Math.Path.{fun_ext}
+use Rattle.std.proofs.lemmas.Bool.{false_from_ne_true}
 use Rattle.fbc_kinds.specs.declared.pages.Page.{Page}
 use Rattle.fbc_kinds.specs.View.{View}
 use Rattle.fbc_world.specs.declared.drafts.Draft.{Draft}
@@ -20,10 +21,6 @@ pub clash : (b : Bool) → b ≡ true → b ≡ false → ⊥
 clash true is isnt = cc
 clash false is isnt = cc
 
-pub false_from : (b : Bool) → (b ≡ true → ⊥) → b ≡ false
-false_from true never = absurd (never refl)
-false_from false never = refl
-
 module _ (w : World) where
   pub none-closed : IsClosedCut w no_draft
   none-closed = record { drafted = λ page is. absurd cc; closed = λ high low path there is. absurd cc }
@@ -38,7 +35,7 @@ module _ (w : World) where
   pub all-view : view w (all_drafts w) ≡ newest_of w
   all-view = fun_ext (λ page. all_page (w.kept page) (w.draft page))
 
-  -- a cut that has all drafts
+  -- A cut that has all drafts.
   wide_page : (kept : Option Page) (d : Option Draft) (b : Bool) → (is_some d ≡ true → b ≡ true) → (if b && is_some d then newest_in kept d else kept) ≡ newest_in kept d
   wide_page kept None true has = refl
   wide_page kept None false has = refl
@@ -55,6 +52,6 @@ module _ (w : World) where
     pub kept-committed : (cut : Cut) → IsClosedCut w cut → is_committed_in w.kept number ≡ true → is_committed_in (view w cut) number ≡ true
     kept-committed cut closed is = grow no_draft cut number none-closed closed (λ page never. absurd cc) is
 
-    -- what is not committed in the newest pages is so in no view
+    -- What is not committed in the newest pages is so in no view.
     pub never-committed : is_committed_in (newest_of w) number ≡ false → (cut : Cut) → IsClosedCut w cut → is_committed_in (view w cut) number ≡ false
-    never-committed none cut closed = false_from _ (λ is. clash _ (committed-newest cut closed is) none)
+    never-committed none cut closed = false_from_ne_true _ (λ is. clash _ (committed-newest cut closed is) none)

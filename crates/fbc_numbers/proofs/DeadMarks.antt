@@ -8,9 +8,9 @@ use Rattle.fbc_kinds.specs.declared.pages.State.{State}
 use Rattle.fbc_kinds.specs.Sound.{IsSound}
 use Rattle.fbc_kinds.specs.declared.shapes.Shape.{Shape}
 use Rattle.fbc_kinds.specs.View.{View, next_of}
-use Rattle.fbc_rows.specs.Forms.{AllowsMark}
-use Rattle.fbc_views.specs.Edited.{with_page}
-use Rattle.fbc_rows.proofs.Marked.{marked_view}
+use Rattle.fbc_version_edits.specs.Forms.{AllowsMark}
+use Rattle.fbc_page_edits.specs.Edited.{with_page}
+use Rattle.fbc_version_edits.proofs.Marked.{marked_view}
 use Rattle.fbc_world.specs.History.{History}
 use Rattle.fbc_legal.specs.Facts.{Fact, HasNextAbove}
 use Rattle.fbc_legal.specs.Guards.{GuardOfEdit}
@@ -18,21 +18,10 @@ use Rattle.fbc_legal.specs.Leans.{IsShown}
 use Rattle.fbc_legal.specs.Scene.{HasDraft, IsBefore, Scene, newest_at, scene_of}
 use Rattle.fbc_legal.specs.Stamps.{Stamps, newest_stamps}
 use Rattle.fbc_closed_cuts.specs.Owed.{IsSeenEdit, IsSeenNewest, KeepsViewsSound, SeesEdit}
+use Rattle.fbc_closed_cuts.proofs.LeansSeen.{lean-seen}
 use Rattle.fbc_numbers.specs.Numbers.{IsNumbered, is_committed_in}
 use Rattle.fbc_numbers.proofs.CutFacts.{never-committed}
 use Rattle.fbc_numbers.proofs.EditCommits.{dead-number}
-
--- what an edit leans on is shown by each view that sees it
-module _ (at : Scene) (owner edited : ℕ) (seen : View) (stamps : ℕ → Stamps) (sees : SeesEdit at owner edited seen stamps) (fact : Fact) where
-  of_newest : (other : ℕ) → IsSeenNewest at other (seen other) (stamps other) → fact (newest_at at other) (newest_stamps at.world at.stamps other) → fact (seen other) (stamps other)
-  of_newest other is newest = rw (is.page, is.stamps) newest
-
-  lean-seen : (other : ℕ) → IsShown at owner edited other fact → fact (seen other) (stamps other)
-  lean-seen other is = go is.in_time where
-    go : (other ≡ edited) ⊎ fact (at.world.kept other) (at.stamps.kept other) ⊎ (HasDraft at owner other × IsBefore at other edited) → fact (seen other) (stamps other)
-    go (inl same) = of_newest other (subst (λ p. IsSeenNewest at p (seen p) (stamps p)) (sym same) sees.edited_page) is.newest
-    go (inr (inl kept)) = elim (sees.each other) [ inl now ↦ of_newest other now is.newest | inr file ↦ rw (file.page, file.stamps) kept ]
-    go (inr (inr own)) = of_newest other (sees.before other own.0 own.1) is.newest
 
 module _ (at : Scene) (k : IsNumbered at) (owner page number : ℕ) (g : GuardOfEdit at owner page (Mark number Dead)) (seen : View) (stamps : ℕ → Stamps) (sees : SeesEdit at owner page seen stamps) where
   uncommitted : is_committed_in seen number ≡ false
@@ -45,11 +34,11 @@ module _ (at : Scene) (k : IsNumbered at) (owner page number : ℕ) (g : GuardOf
     begun : number < next_of seen
     begun = let has = lean-seen at owner page seen stamps sees (HasNextAbove number) 0 g.leans in rw has.1 has.2
 
--- a marked number was begun, in each view that sees the mark
+-- A marked number was begun, in each view that sees the mark.
 pub begun-seen : (at : Scene) (owner page number : ℕ) (state : State) → GuardOfEdit at owner page (Mark number state) → (seen : View) (stamps : ℕ → Stamps) → SeesEdit at owner page seen stamps → number < next_of seen
 begun-seen at owner page number state g seen stamps sees = let has = lean-seen at owner page seen stamps sees (HasNextAbove number) 0 g.leans in rw has.1 has.2
 
--- a mark that the view allows leaves it sound
+-- A mark that the view allows leaves it sound.
 module _ (shape : Shape) (file : View) (past : History) (owner page number : ℕ) (state : State) (content : Page) (seen : View) (stamps : ℕ → Stamps)
     (is : IsSeenEdit shape file past owner page (Mark number state) content seen stamps) (allowed : AllowsMark seen number state) where
   marks-sound : IsSound (with_page seen page content)

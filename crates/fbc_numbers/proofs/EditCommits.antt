@@ -13,10 +13,10 @@ use Rattle.fbc_kinds.specs.declared.shapes.Shape.{Shape}
 use Rattle.fbc_kinds.specs.Limits.{tip_numbers}
 use Rattle.fbc_kinds.specs.Reach.{ReachesPage, TipRole}
 use Rattle.fbc_kinds.specs.View.{View, header_in, is_committed_state, next_of, state_in, tip_of}
-use Rattle.fbc_rows.specs.Forms.{AllowsMark}
-use Rattle.fbc_views.specs.Allowed.{Fits}
-use Rattle.fbc_views.specs.Edited.{with_page}
-use Rattle.fbc_rows.proofs.Marked.{IsMarked, marked_view}
+use Rattle.fbc_version_edits.specs.Forms.{AllowsMark}
+use Rattle.fbc_page_edits.specs.Allowed.{Fits}
+use Rattle.fbc_page_edits.specs.Edited.{with_page}
+use Rattle.fbc_version_edits.proofs.Marked.{IsMarked, marked_view}
 use Rattle.fbc_world.specs.declared.events.Act.TheVariants.{Local}
 use Rattle.fbc_world.specs.declared.events.LocalEvent.TheVariants as local
 use Rattle.fbc_world.specs.History.{History, Moment, happens}
@@ -41,7 +41,7 @@ use Rattle.fbc_numbers.proofs.CutFacts.{all-closed, all-view, all_drafts, clash,
 use Rattle.fbc_numbers.proofs.NamedTips.{commit-named, tip_seen}
 use Rattle.fbc_numbers.proofs.PageStates.{off_states, still_states, tip_states}
 
--- the state that an edit marks a number with
+-- The state that an edit marks a number with.
 abbrev pub mark_of : Edit → ℕ → Option State
 mark_of (edit.Mark marked state) number = if number == marked then Some state else None
 mark_of _ number = None
@@ -50,17 +50,17 @@ abbrev pub committed_by : Option State → Bool → Bool
 committed_by None was = was
 committed_by (Some state) was = is_committed_state state
 
--- whether a number that is committed stays so
+-- Whether a number that is committed stays so.
 abbrev pub Stays : Edit → ℕ → Type 0
 Stays e number = committed_by (mark_of e number) true ≡ true
 
--- on an empty transaction inventory page every number is active
-active_at : (count place : ℕ) → unwrap_or (slice_get (replicate count Active) place) Active ≡ Active
+-- On an empty transaction inventory page every number is active.
+pub active_at : (count place : ℕ) → unwrap_or (slice_get (replicate count Active) place) Active ≡ Active
 active_at zero place = refl
 active_at (suc count) zero = refl
 active_at (suc count) (suc place) = active_at count place
 
--- a number that may be marked dead is not committed in the newest pages
+-- A number that may be marked dead is not committed in the newest pages.
 pub dead-number : (at : Scene) (owner number : ℕ) → OpensAreUncommitted at.world → at.world.marked owner ≡ None → IsDeadMark at owner number → is_committed_in (newest_of at.world) number ≡ false
 dead-number at owner number uncommitted unmarked (inl own) = rw own.2 (uncommitted owner own.0 own.1 unmarked)
 dead-number at owner number uncommitted unmarked (inr shared) = rw shared.1 refl
@@ -104,7 +104,7 @@ module _ (shape : Shape) (file : View) (before : History) (owner page : ℕ) (e 
     next_above : (number : ℕ) → HasNextAbove number (seen 0) (view_stamps w s (drafted_in w cut) 0) → number < next_of seen
     next_above number has = rw has.1 has.2
 
-    -- what a mark may do in the view
+    -- What a mark may do in the view.
     stays : (number : ℕ) (state : State) → IsMark at owner page number state → (state ≡ Committed) ⊎ (is_committed_in seen number ≡ false)
     stays number Committed row = inl refl
     stays number Dead row = inr (never-committed w grow number (dead_number number row) (drafted_in w cut) changed.closed)
@@ -169,7 +169,7 @@ module _ (shape : Shape) (file : View) (before : History) (owner page : ℕ) (e 
     pub without-closed : IsClosedCut w (drafted_in w cut)
     without-closed = spared.closed
 
-  -- no mark takes back what is committed in some view
+  -- No mark takes back what is committed in some view.
   pub stays-committed : (cut : Cut) → IsClosedCut w cut → (number : ℕ) → is_committed_in (view w cut) number ≡ true → Stays e number
   stays-committed cut closed number committed = go e g.row where
     dead : (marks : ℕ) → IsDeadMark at owner marks → number ≡ marks → ⊥
@@ -197,7 +197,7 @@ module _ (shape : Shape) (file : View) (before : History) (owner page : ℕ) (e 
     go true same = refl
     go false never = absurd cc
 
-  -- the newest pages
+  -- The newest pages.
   pub newest-edited : (number : ℕ) → is_committed_in (newest_of after) number ≡ committed_by (mark_of e number) (is_committed_in (newest_of w) number)
   newest-edited number =
       ap (λ (v : View). is_committed_in v number) (sym (all-view after)) ∙ with-page (all_drafts after) (all-closed after) page_there number

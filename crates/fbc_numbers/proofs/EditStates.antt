@@ -1,5 +1,5 @@
 -- The state of a number in each view after an edit: that of a view before, unless the edit marks the number.
-use Rattle.std.proofs.Common.{◌≡◌, ◌∙◌, ◌∷◌, ◌⊎◌, ℕ, zero, suc, replicate, slice_get, Bool, true, false, length, Option, Some, None, inl, inr, refl, sym, ap, subst}
+use Rattle.std.proofs.Common.{◌≡◌, ◌∙◌, ◌∷◌, ◌⊎◌, ℕ, Bool, true, false, length, Option, Some, None, inl, inr, refl, sym, ap, subst}
 use Rattle.std.specs.Option.{unwrap_or}
 use Rattle.std.proofs.Math.Path.{fun_ext}
 use Rattle.fbc_kinds.specs.declared.edits.Edit.{Edit}
@@ -13,10 +13,10 @@ use Rattle.fbc_kinds.specs.Chain.{state_of}
 use Rattle.fbc_kinds.specs.Limits.{tip_numbers}
 use Rattle.fbc_kinds.specs.Reach.{ReachesPage, TipRole}
 use Rattle.fbc_kinds.specs.View.{View, header_in, state_in}
-use Rattle.fbc_views.specs.Alike.{HaveSameStates}
-use Rattle.fbc_views.specs.Allowed.{Fits}
-use Rattle.fbc_views.specs.Edited.{with_page}
-use Rattle.fbc_rows.proofs.Marked.{IsMarked, marked_view}
+use Rattle.fbc_page_edits.specs.Alike.{HaveSameStates}
+use Rattle.fbc_page_edits.specs.Allowed.{Fits}
+use Rattle.fbc_page_edits.specs.Edited.{with_page}
+use Rattle.fbc_version_edits.proofs.Marked.{IsMarked, marked_view}
 use Rattle.fbc_world.specs.declared.events.Act.TheVariants.{Local}
 use Rattle.fbc_world.specs.declared.events.LocalEvent.TheVariants as local
 use Rattle.fbc_world.specs.History.{History, Moment, happens}
@@ -34,16 +34,10 @@ use Rattle.fbc_closed_cuts.specs.Views.{IsSameView, IsViewOfEdit, drafted_in}
 use Rattle.fbc_closed_cuts.proofs.CutLaws.{edit-spares, edit-views, leans-shown, named_nowhere-unreached}
 use Rattle.fbc_closed_cuts.proofs.UpheldEdits.{newest_fits}
 use Rattle.fbc_numbers.specs.Numbers.{CommitsGrow, OpensAreUncommitted}
-use Rattle.fbc_numbers.proofs.EditCommits.{allows-mark}
+use Rattle.fbc_numbers.proofs.EditCommits.{allows-mark, active_at}
 use Rattle.fbc_numbers.proofs.PageStates.{off_states, still_states, tip_states}
 
--- on an empty transaction inventory page every number is active
-empty-active : (count place : ℕ) → unwrap_or (slice_get (replicate count Active) place) Active ≡ Active
-empty-active zero place = refl
-empty-active (suc count) zero = refl
-empty-active (suc count) (suc place) = empty-active count place
-
--- the state is as before, or the edit marks the number so
+-- The state is as before, or the edit marks the number so.
 abbrev pub StateComes : Edit → ℕ → State → State → Type 0
 StateComes e number before now = (now ≡ before) ⊎ (e ≡ edit.Mark number now)
 
@@ -77,7 +71,7 @@ module _ (shape : Shape) (file : View) (before : History) (owner page : ℕ) (e 
     abbrev seen : View
     seen = view w (drafted_in w cut)
 
-    -- a view without the page is a view before
+    -- A view without the page is a view before.
     module _ (out : cut page ≡ false) where
       spared : IsSameView w (stamps_of shape file before) after (stamps_of shape file (edits ∷ before)) cut (drafted_in w cut)
       spared = edit-spares shape file before owner page e landed content cut is closed out
@@ -85,7 +79,7 @@ module _ (shape : Shape) (file : View) (before : History) (owner page : ℕ) (e 
       without-page : (number : ℕ) → StateComes e number (state_of seen number) (state_of (view after cut) number)
       without-page number = inl (ap (λ (v : View). state_of v number) (fun_ext (λ p. spared.pages p)))
 
-    -- a view with the page
+    -- A view with the page.
     module _ (in_cut : cut page ≡ true) where
       changed : IsViewOfEdit w (stamps_of shape file before) after (stamps_of shape file (edits ∷ before)) page content cut
       changed = edit-views shape file before owner page e landed content cut is closed in_cut
@@ -112,7 +106,7 @@ module _ (shape : Shape) (file : View) (before : History) (owner page : ℕ) (e 
         active None none place = absurd none
         active (Some header) ready place =
             let empty = leans-shown shape file before owner page e landed content cut is (IsEmptyPage shape 3 tip 0 (length header.tips)) tip closed in_cut ready.0.empty in
-            ap (λ o. unwrap_or (state_in o place) Active) (empty.1 ∙ sym empty.2) ∙ empty-active (tip_numbers shape.size) place
+            ap (λ o. unwrap_or (state_in o place) Active) (empty.1 ∙ sym empty.2) ∙ active_at (tip_numbers shape.size) place
       by (edit.Format page_kind carried relation sequence) row leans fits number =
           same_state (edit.Format page_kind carried relation sequence) seen (with_page seen page content) (off_states seen page content row.no_header (λ sequence reached. unreached (TipRole sequence, reached))) number where
             unreached : ¬ ReachesPage seen page
@@ -122,7 +116,7 @@ module _ (shape : Shape) (file : View) (before : History) (owner page : ℕ) (e 
       with-page : (number : ℕ) → StateComes e number (state_of seen number) (state_of (view after cut) number)
       with-page number = subst (λ (v : View). StateComes e number (state_of seen number) (state_of v number)) (sym (fun_ext (λ p. changed.pages p))) (by e g.row g.leans fits-seen number)
 
-    -- the cut before
+    -- The cut before.
     pub edited-closed : IsClosedCut w (drafted_in w cut)
     edited-closed = go (cut page) refl where
       go : (b : Bool) → cut page ≡ b → IsClosedCut w (drafted_in w cut)

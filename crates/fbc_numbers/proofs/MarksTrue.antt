@@ -12,9 +12,9 @@ use Rattle.fbc_kinds.specs.declared.snapshots.Transaction.{Transaction}
 use Rattle.fbc_kinds.specs.Limits.{tip_numbers}
 use Rattle.fbc_kinds.specs.View.{state_in, tip_of}
 use Rattle.fbc_kinds.proofs.EditLimits.{slice_get-set_same}
-use Rattle.fbc_views.specs.Allowed.{Fits}
-use Rattle.fbc_views.specs.Edited.{IsOfShape}
-use Rattle.fbc_rows.proofs.Marked.{Shows, shows_state}
+use Rattle.fbc_page_edits.specs.Allowed.{Fits}
+use Rattle.fbc_page_edits.specs.Edited.{IsOfShape}
+use Rattle.fbc_version_edits.proofs.Marked.{Shows, shows_state}
 use Rattle.fbc_world.specs.declared.events.Act.{Act}
 use Rattle.fbc_world.specs.declared.events.Act.TheVariants.{Die, Local, Write}
 use Rattle.fbc_world.specs.declared.events.LocalEvent.TheVariants as local
@@ -41,7 +41,7 @@ module _ (at : Scene) (u : IsUpheld at) (true_marks : MarksAreTrue at.shape at.w
   abbrev w : World
   w = at.world
 
-  -- the page of a mark is its owner's draft
+  -- The page of a mark is its owner's draft.
   drafted_on : (other page : ℕ) → w.marked other ≡ Some page → is_draft_of other (w.draft page) ≡ true
   drafted_on other page marked = (subst (IsMarkDrafted w other) marked (u.marks other)).0
 
@@ -80,7 +80,7 @@ module _ (at : Scene) (u : IsUpheld at) (true_marks : MarksAreTrue at.shape at.w
     true-acted (Local (local.Unpin number)) landed g plain no_edit after = record { only = was.only; named = was.named; shows = was.shows }
     true-acted _ landed g plain no_edit after = record { only = was.only; named = was.named; shows = was.shows }
 
-  -- who begins has no mark
+  -- Who begins has no mark.
   unmarked : (other page : ℕ) → w.transaction other ≡ None → w.marked other ≡ Some page → ⊥
   unmarked other page none marked = clash _ (subst (IsMarkDrafted w other) marked (u.marks other)).1 (ap is_some none)
 
@@ -96,7 +96,7 @@ module _ (at : Scene) (u : IsUpheld at) (true_marks : MarksAreTrue at.shape at.w
     abbrev after : World
     after = with_edit w owner edited e (Some content)
 
-    -- another's draft was there before
+    -- Another's draft was there before.
     draft_before : (other p : ℕ) → other == owner ≡ false → is_draft_of other (after.draft p) ≡ true → is_draft_of other (w.draft p) ≡ true
     draft_before other p apart = go (p == edited) where
       go : (b : Bool) → is_draft_of other (if b then Some (record { owner = owner; content = content }) else w.draft p) ≡ true → is_draft_of other (w.draft p) ≡ true
@@ -109,7 +109,7 @@ module _ (at : Scene) (u : IsUpheld at) (true_marks : MarksAreTrue at.shape at.w
       go true same its = inl (same_number p edited same)
       go false apart its = inr its
 
-    -- another's mark
+    -- Another's mark.
     true-other : (other page : ℕ) (t : Transaction) → other == owner ≡ false → w.marked other ≡ Some page → IsTrueMark at.shape w other page t → IsTrueMark at.shape after other page t
     true-other other page t apart marked was = record { only = λ p its. was.only p (draft_before other p apart its); named = was.named; shows = go (page == edited) refl } where
       go : (b : Bool) → page == edited ≡ b → state_in (newest_of after page) (t.number % tip_numbers at.shape.size) ≡ Some Committed
@@ -120,7 +120,7 @@ module _ (at : Scene) (u : IsUpheld at) (true_marks : MarksAreTrue at.shape at.w
     newest_of_shape : IsOfShape at.shape (newest_of w)
     newest_of_shape = subst (IsOfShape at.shape) (all-view w) (u.of_shape (all_drafts w) (all-closed w))
 
-    -- the owner's mark, as it is made
+    -- The owner's mark, as it is made.
     true-own : (t : Transaction) → e ≡ edit.Mark t.number Committed → IsTrueMark at.shape after owner edited t
     true-own t is = record {
       only = λ p its. only p (own_before p its);

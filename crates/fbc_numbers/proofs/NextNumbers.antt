@@ -7,13 +7,13 @@ use Rattle.fbc_kinds.specs.declared.pages.Page.{Page}
 use Rattle.fbc_kinds.specs.declared.pages.Page.TheVariants as kind
 use Rattle.fbc_kinds.specs.declared.shapes.Shape.{Shape}
 use Rattle.fbc_kinds.specs.Edits.{given}
-use Rattle.fbc_views.specs.Allowed.{Fits}
-use Rattle.fbc_views.proofs.Fitted.{ChangesHeader, adds_inventory, adds_pointer, adds_tip, frees_mark, given_some, names_slot, raises_next, takes_mark, unnames_slot}
-use Rattle.fbc_rows.proofs.Marked.{shows_state}
+use Rattle.fbc_page_edits.specs.Allowed.{Fits}
+use Rattle.fbc_page_edits.proofs.Fitted.{ChangesHeader, adds_inventory, adds_pointer, adds_tip, frees_mark, given_some, names_slot, raises_next, takes_mark, unnames_slot}
+use Rattle.fbc_version_edits.proofs.Marked.{shows_state}
 use Rattle.fbc_legal.proofs.HeaderRanks.{is_format}
 use Rattle.fbc_numbers.proofs.NamedTips.{next_in}
 
--- the edit sets the next number
+-- The edit sets the next number.
 pub record SetsNext (e : Edit) (content : Page) : Type 0 where
   pub next : ℕ
   pub is : e ≡ edit.SetNext next
@@ -28,7 +28,7 @@ page_next old before after content stands made same = ap (λ p. next_in (Some p)
 cell_next : (b : Bool) (after content : Page) → next_in (Some after) ≡ 0 → given b after ≡ Some content → next_in (Some content) ≡ 0
 cell_next b after content none is = ap (λ p. next_in (Some p)) (sym (given_some b after content is).1) ∙ none
 
--- an edit but a format leaves the next number, or sets it
+-- An edit but a format leaves the next number, or sets it.
 pub next-after : (shape : Shape) (e : Edit) (old : Option Page) (content : Page) → Fits shape e old content → is_format e ≡ false → (next_in (Some content) ≡ next_in old) ⊎ SetsNext e content
 next-after shape (edit.PutCell cell new) (Some (kind.Data d)) content fits plain = inl (cell_next _ _ content refl fits)
 next-after shape (edit.PutCell cell new) None content fits plain = absurd fits

@@ -1,8 +1,7 @@
 -- Who waits for a number below EX has no level on it yet, after each event.
-use Rattle.std.proofs.Common.{◌≡◌, ◌∙◌, ap, ℕ, Bool, true, false, not, ◌==◌, ◌&&◌, ◌⊎◌, inl, inr, if◌then◌else◌, List, [], ◌∷◌, map, Option, Some, None, is_some, refl, sym, arith}
+use Rattle.std.proofs.Common.{◌≡◌, ◌∙◌, ℕ, Bool, true, false, not, ◌==◌, ◌&&◌, ◌⊎◌, inl, inr, if◌then◌else◌, List, [], ◌∷◌, map, Option, Some, None, is_some, refl, sym, arith}
 use Rattle.std.specs.List.{AllPairs, filter, find}
-use Rattle.std.specs.Option.{option_and_then, option_map, option_map_or, option_or}
-use Rattle.std.proofs.lemmas.Bool.Decides.{nat_tests}
+use Rattle.std.specs.Option.{option_and_then, option_or}
 use Rattle.fbc_kinds.specs.declared.shapes.Shape.{Shape}
 use Rattle.fbc_kinds.specs.View.{View}
 use Rattle.fbc_levels.specs.declared.levels.Level.{Level}
@@ -27,77 +26,25 @@ use Rattle.fbc_world.specs.History.{History}
 use Rattle.fbc_world.specs.Locks.{asked, lowered_to, unless_circle, waiting_of, with_grant}
 use Rattle.fbc_world.specs.World.{World, acted, world_of}
 use Rattle.fbc_world.proofs.Apart.{IsApart, apart_queued, once}
-use Rattle.fbc_world.proofs.Found.{find_filter-once, find_map, find_passes}
-use Rattle.fbc_world.proofs.Requests.{find_entered, is_key, level_in, same_key}
+use Rattle.fbc_world.proofs.Requests.{is_key, level_in}
 use Rattle.fbc_legal.specs.Guards.{Guard, GuardOfSeries}
 use Rattle.fbc_legal.specs.Legal.{IsLegal}
 use Rattle.fbc_legal.specs.Scene.{Scene, number_resource, scene_of}
+use Rattle.fbc_legal.proofs.BareWaits.{IsBare, bare_filter, bare_map, bare_set, is_found, level_found}
 use Rattle.fbc_legal.proofs.Exclusion.{AreRequestsTrue, both_of, same_number}
 use Rattle.fbc_legal.proofs.Induction.{requests_true}
 
--- the level waited for, if there is one, is below EX
+-- The level waited for, if there is one, is below EX.
 abbrev pub is_low : Option Level → Bool
 is_low None = false
 is_low (Some level) = not (is_exclusive level)
 
--- the request has a level, and waits for one below EX
+-- The request has a level, and waits for one below EX.
 abbrev pub is_low_raise : Request → Bool
 is_low_raise r = is_low r.waiting && not (is_free r.granted)
 
-abbrev raises : Option Request → Bool
-raises found = option_map_or is_low_raise found false
-
-own_new : (o : ℕ) (r : Resource) (word : ℕ) → is_of o r (new_request o r word) ≡ true
-own_new o r word = grind (arith, nat_tests)
-
--- what is found, or else a new request, has the level that is found
-level_found : (found : Option Request) (o : ℕ) (r : Resource) (word : ℕ) (x : Request) → option_or found (Some (new_request o r word)) ≡ Some x → level_in found ≡ x.granted
-level_found None o r word x is = cc
-level_found (Some y) o r word x is = cc
-
--- the owner's request for the resource does not raise a level so
-abbrev IsBare : ℕ → Resource → List Request → Type 0
-IsBare owner resource requests = raises (find (is_of owner resource) requests) ≡ false
-
 abbrev pub NumberWaitsAreBare : World → Type 0
-NumberWaitsAreBare w = (owner number : ℕ) → raises (request_of w.locks owner (number_resource number)) ≡ false
-
-module _ (owner : ℕ) (resource : Resource) where
-  -- a change after which a request raises a level only where it did
-  bare_map : (f : Request → Request) → ((x : Request) → is_of owner resource (f x) ≡ is_of owner resource x) → ((x : Request) → is_low_raise x ≡ false → is_low_raise (f x) ≡ false)
-      → (rs : List Request) → IsBare owner resource rs → IsBare owner resource (map f rs)
-  bare_map f same keeps rs bare = ap raises (find_map (is_of owner resource) f same rs) ∙ go (find (is_of owner resource) rs) bare where
-    go : (found : Option Request) → raises found ≡ false → raises (option_map f found) ≡ false
-    go None is = refl
-    go (Some x) is = keeps x is
-
-  -- a change of one request, entered where there was none
-  bare_set : (o : ℕ) (r : Resource) (word : ℕ) (f : Request → Request) → ((x : Request) → is_of owner resource (f x) ≡ is_of owner resource x)
-      → ((x : Request) → is_of o r x ≡ false → is_low_raise x ≡ false → is_low_raise (f x) ≡ false)
-      → (rs : List Request)
-      → (is_key o r owner resource ≡ true → (x : Request) → is_of o r x ≡ true → option_or (find (is_of owner resource) rs) (Some (new_request o r word)) ≡ Some x → is_low_raise x ≡ false → is_low_raise (f x) ≡ false)
-      → IsBare owner resource rs → IsBare owner resource (map f (entered rs o r word))
-  bare_set o r word f same keeps rs own bare =
-      ap raises (find_map (is_of owner resource) f same (entered rs o r word)) ∙ ap (λ found. raises (option_map f found)) (find_entered owner resource rs o r word)
-      ∙ go (find (is_of owner resource) rs) refl (is_key o r owner resource) refl own bare where
-        go : (found : Option Request) → find (is_of owner resource) rs ≡ found → (b : Bool) → is_key o r owner resource ≡ b
-            → (b ≡ true → (x : Request) → is_of o r x ≡ true → option_or found (Some (new_request o r word)) ≡ Some x → is_low_raise x ≡ false → is_low_raise (f x) ≡ false)
-            → raises found ≡ false → raises (option_map f (option_or found (if b then Some (new_request o r word) else None))) ≡ false
-        go None is true key mine was = mine refl (new_request o r word) (own_new o r word) refl refl
-        go None is false key mine was = refl
-        go (Some x) is true key mine was = mine refl x (same_key owner resource o r x (find_passes (is_of owner resource) rs x is) ∙ key) refl was
-        go (Some x) is false key mine was = keeps x (same_key owner resource o r x (find_passes (is_of owner resource) rs x is) ∙ key) was
-
-  -- some requests are taken out
-  bare_filter : (q : Request → Bool) (rs : List Request) → AllPairs (λ x y. is_of owner resource x ≡ true → is_of owner resource y ≡ true → ⊥) rs → IsBare owner resource rs → IsBare owner resource (filter q rs)
-  bare_filter q rs apart bare = ap raises (find_filter-once (is_of owner resource) q rs apart) ∙ go (find (is_of owner resource) rs) bare where
-    keep : (x : Request) (b : Bool) → is_low_raise x ≡ false → raises (if b then Some x else None) ≡ false
-    keep x true is = is
-    keep x false is = refl
-
-    go : (found : Option Request) → raises found ≡ false → raises (option_and_then (λ x. if q x then Some x else None) found) ≡ false
-    go None is = refl
-    go (Some x) is = keep x (q x) is
+NumberWaitsAreBare w = (owner number : ℕ) → is_found is_low_raise (request_of w.locks owner (number_resource number)) ≡ false
 
 module _ (at : Scene) (bare : NumberWaitsAreBare at.world) (t : AreRequestsTrue at.world) (owner : ℕ) (landed : Bool) where
   abbrev s : LockState
@@ -110,7 +57,7 @@ module _ (at : Scene) (bare : NumberWaitsAreBare at.world) (t : AreRequestsTrue 
     apart : AllPairs (λ x y. is_of other resource x ≡ true → is_of other resource y ≡ true → ⊥) s.requests
     apart = once other resource s.requests t.apart
 
-    -- who asks for a number below EX has no request for it
+    -- Who asks for a number below EX has no request for it.
     none_found : (kind : Series) (key : ℕ) (level : Level) (word : ℕ) → GuardOfSeries at owner kind key level word → is_key owner (record { series = kind; key = key }) other resource ≡ true
         → (level ≡ Ex) ⊎ (find (is_of other resource) s.requests ≡ None)
     none_found series.Transaction key Ex word g is = inl refl
@@ -119,9 +66,9 @@ module _ (at : Scene) (bare : NumberWaitsAreBare at.world) (t : AreRequestsTrue 
         inr (rw (← same_number owner other keys.0, ← same_number key number keys.1) g.fresh)
     none_found _ key level word g is = absurd (grind (arith, is))
 
-    queued : (r : Resource) (level : Level) (word : ℕ) → GuardOfSeries at owner r.series r.key level word → IsBare other resource (after_ask s owner r level word Queued).requests
+    queued : (r : Resource) (level : Level) (word : ℕ) → GuardOfSeries at owner r.series r.key level word → IsBare is_low_raise other resource (after_ask s owner r level word Queued).requests
     queued r level word g =
-        bare_set other resource owner r word (with_waiting owner r level) (λ x. refl) (λ x not_it was. grind (arith, not_it, was)) s.requests own (bare other number) where
+        bare_set is_low_raise other resource owner r word (with_waiting owner r level) (λ x. refl) (λ x not_it was. grind (arith, not_it, was)) s.requests own refl (bare other number) where
           by : (x : Request) → is_of owner r x ≡ true → option_or (find (is_of other resource) s.requests) (Some (new_request owner r word)) ≡ Some x → (level ≡ Ex) ⊎ (find (is_of other resource) s.requests ≡ None)
               → is_low_raise (with_waiting owner r level x) ≡ false
           by x it is (inl ex) = grind (arith, it, ex)
@@ -131,27 +78,27 @@ module _ (at : Scene) (bare : NumberWaitsAreBare at.world) (t : AreRequestsTrue 
               → is_low_raise x ≡ false → is_low_raise (with_waiting owner r level x) ≡ false
           own key x it is was = by x it is (none_found r.series r.key level word g key)
 
-    -- a withdrawal takes waits away
-    withdraw : (o : ℕ) (rs : List Request) → AllPairs (λ x y. is_of other resource x ≡ true → is_of other resource y ≡ true → ⊥) rs → IsBare other resource rs
-        → IsBare other resource (map (without_wait o) (filter (λ x. not (is_bare_wait_of o x)) rs))
+    -- A withdrawal takes waits away.
+    withdraw : (o : ℕ) (rs : List Request) → AllPairs (λ x y. is_of other resource x ≡ true → is_of other resource y ≡ true → ⊥) rs → IsBare is_low_raise other resource rs
+        → IsBare is_low_raise other resource (map (without_wait o) (filter (λ x. not (is_bare_wait_of o x)) rs))
     withdraw o rs only was =
-        bare_map other resource (without_wait o) (λ x. refl) (λ x is. grind (arith, is)) (filter (λ x. not (is_bare_wait_of o x)) rs) (bare_filter other resource (λ x. not (is_bare_wait_of o x)) rs only was)
+        bare_map is_low_raise other resource (without_wait o) (λ x. refl) (λ x is. grind (arith, is)) (filter (λ x. not (is_bare_wait_of o x)) rs) (bare_filter is_low_raise other resource (λ x. not (is_bare_wait_of o x)) rs only was)
 
-    unless : (a : LockState) → IsApart a → IsBare other resource a.requests → IsBare other resource (unless_circle a owner).requests
+    unless : (a : LockState) → IsApart a → IsBare is_low_raise other resource a.requests → IsBare is_low_raise other resource (unless_circle a owner).requests
     unless a only was = go (is_some (circle_from a owner)) where
-      go : (b : Bool) → IsBare other resource (if b then withdrawn a owner else a).requests
+      go : (b : Bool) → IsBare is_low_raise other resource (if b then withdrawn a owner else a).requests
       go true = withdraw owner a.requests (once other resource a.requests only) was
       go false = was
 
-    ask : (r : Resource) (level : Level) (word : ℕ) (answer : Asked) → GuardOfSeries at owner r.series r.key level word → IsBare other resource (asked s owner r level word answer).requests
+    ask : (r : Resource) (level : Level) (word : ℕ) (answer : Asked) → GuardOfSeries at owner r.series r.key level word → IsBare is_low_raise other resource (asked s owner r level word answer).requests
     ask r level word Granted g = queued r level word g
     ask r level word Queued g = unless (after_ask s owner r level word Queued) (apart_queued s owner r level word t.apart) (queued r level word g)
     ask r level word _ g = bare other number
 
-    -- a level is lowered where there is one
-    set_lower : (r : Resource) (level : Level) → join (at.world.granted owner r) level ≡ at.world.granted owner r → IsBare other resource (map (with_granted owner r level) (entered s.requests owner r 0))
+    -- A level is lowered where there is one.
+    set_lower : (r : Resource) (level : Level) → join (at.world.granted owner r) level ≡ at.world.granted owner r → IsBare is_low_raise other resource (map (with_granted owner r level) (entered s.requests owner r 0))
     set_lower r level part =
-        bare_set other resource owner r 0 (with_granted owner r level) (λ x. refl) (λ x not_it was. grind (arith, not_it, was)) s.requests own (bare other number) where
+        bare_set is_low_raise other resource owner r 0 (with_granted owner r level) (λ x. refl) (λ x not_it was. grind (arith, not_it, was)) s.requests own refl (bare other number) where
           given : is_key owner r other resource ≡ true → join (granted_of s other resource) level ≡ granted_of s other resource
           given key =
               let keys = both_of (owner == other) (is_same_resource r resource) key in
@@ -166,21 +113,21 @@ module _ (at : Scene) (bare : NumberWaitsAreBare at.world) (t : AreRequestsTrue 
               let less = lower x (granted_of s other resource) (given key) (level_found (find (is_of other resource) s.requests) owner r 0 x is) was in
               grind (arith, it, less)
 
-    lowered : (r : Resource) (level : Level) → join (at.world.granted owner r) level ≡ at.world.granted owner r → IsBare other resource (lowered_to s owner r level).requests
-    lowered r Free part = bare_filter other resource (λ x. not (is_of owner r x)) s.requests apart (bare other number)
+    lowered : (r : Resource) (level : Level) → join (at.world.granted owner r) level ≡ at.world.granted owner r → IsBare is_low_raise other resource (lowered_to s owner r level).requests
+    lowered r Free part = bare_filter is_low_raise other resource (λ x. not (is_of owner r x)) s.requests apart (bare other number)
     lowered r _ part = set_lower r _ part
 
-    dies : IsBare other resource (map (of_dead owner) s.requests)
-    dies = bare_map other resource (of_dead owner) (λ x. refl) (λ x is. is) s.requests (bare other number)
+    dies : IsBare is_low_raise other resource (map (of_dead owner) s.requests)
+    dies = bare_map is_low_raise other resource (of_dead owner) (λ x. refl) (λ x is. is) s.requests (bare other number)
 
   bare-acted : (act : Act) → Guard at owner act → NumberWaitsAreBare (acted at.shape at.world owner act landed)
   bare-acted (Opened locks) g = λ other number. refl
   bare-acted (Ask r level wait word) g = λ other number. ask other number r level word (answer_to_ask s owner r level wait) g.asked
   bare-acted (Grant r level) g = λ other number.
-      bare_set other (number_resource number) owner r 0 (with_grant owner r level) (λ x. refl) (λ x not_it was. grind (arith, not_it, was)) s.requests (λ key x it is was. grind (arith, it)) (bare other number)
+      bare_set is_low_raise other (number_resource number) owner r 0 (with_grant owner r level) (λ x. refl) (λ x not_it was. grind (arith, not_it, was)) s.requests (λ key x it is was. grind (arith, it)) refl (bare other number)
   bare-acted Withdraw g = λ other number. withdraw other number owner s.requests (apart other number) (bare other number)
   bare-acted (Lower r level) g = λ other number. lowered other number r level g.part
-  bare-acted (Reap dead by) g = λ other number. bare_filter other (number_resource number) (λ x. not (x.owner == dead)) s.requests (apart other number) (bare other number)
+  bare-acted (Reap dead by) g = λ other number. bare_filter is_low_raise other (number_resource number) (λ x. not (x.owner == dead)) s.requests (apart other number) (bare other number)
   bare-acted Die g = dies
   bare-acted (Write page reason true) g = dies
   bare-acted (Write page reason false) g = bare
@@ -195,10 +142,10 @@ number_waits_bare shape file [] legal = λ owner number. refl
 number_waits_bare shape file (moment ∷ before) legal =
     bare-acted (scene_of shape file before) (number_waits_bare shape file before legal.0) (requests_true shape file before) moment.event.actor moment.landed moment.event.act legal.1.guard
 
--- who waits for a number below EX has no level on it
+-- Who waits for a number below EX has no level on it.
 pub waits_bare-number : (w : World) → NumberWaitsAreBare w → AreRequestsTrue w → (owner number : ℕ) (level : Level) → waiting_of w.locks owner (number_resource number) ≡ Some level → is_exclusive level ≡ false
     → w.granted owner (number_resource number) ≡ Free
 waits_bare-number w bare t owner number level waits low = sym (t.agrees owner (number_resource number)) ∙ go (request_of w.locks owner (number_resource number)) waits (bare owner number) where
-  go : (found : Option Request) → option_and_then (λ (r : Request). r.waiting) found ≡ Some level → raises found ≡ false → level_in found ≡ Free
+  go : (found : Option Request) → option_and_then (λ (r : Request). r.waiting) found ≡ Some level → is_found is_low_raise found ≡ false → level_in found ≡ Free
   go None is was = refl
   go (Some r) is was = grind (arith, is, was, low)

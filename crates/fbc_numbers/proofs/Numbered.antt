@@ -6,15 +6,15 @@ use Rattle.fbc_kinds.specs.declared.shapes.Shape.{Shape}
 use Rattle.fbc_kinds.specs.View.{View}
 use Rattle.fbc_levels.specs.declared.levels.Level.{Level}
 use Rattle.fbc_levels.specs.declared.resources.Resource.{Resource}
-use Rattle.fbc_views.specs.Allowed.{Fits}
+use Rattle.fbc_page_edits.specs.Allowed.{Fits}
 use Rattle.fbc_world.specs.declared.asks.Cause.{Cause}
 use Rattle.fbc_world.specs.declared.events.Act.{Act}
-use Rattle.fbc_world.specs.declared.events.Act.TheVariants.{Ask, Die, Local, Write}
+use Rattle.fbc_world.specs.declared.events.Act.TheVariants.{Die, Local, Write}
 use Rattle.fbc_world.specs.declared.events.LocalEvent.TheVariants as local
 use Rattle.fbc_world.specs.History.{History, Moment, happens}
 use Rattle.fbc_world.specs.World.{newest_of, page_after, with_edit, world_of}
 use Rattle.fbc_legal.specs.Guards.{GuardOfEdit}
-use Rattle.fbc_legal.specs.Legal.{Follows, FollowsAct, IsGrantOf, IsLegal}
+use Rattle.fbc_legal.specs.Legal.{IsGrantOf, IsLegal}
 use Rattle.fbc_legal.specs.Scene.{scene_of}
 use Rattle.fbc_legal.proofs.Exclusion.{is_plain}
 use Rattle.fbc_legal.proofs.Induction.{requests_true}
@@ -28,6 +28,7 @@ use Rattle.fbc_numbers.specs.Numbers.{IsNumbered, MarksAreTrue, NumbersDiffer, O
 use Rattle.fbc_numbers.proofs.ActCommits.{acts-grow}
 use Rattle.fbc_numbers.proofs.CommitsGrown.{edits-grow, grow-start}
 use Rattle.fbc_numbers.proofs.CommitsMarked.{marked-acted, marked-edited}
+use Rattle.fbc_numbers.proofs.FailedWrites.{follows-also}
 use Rattle.fbc_numbers.proofs.MarksTrue.{true_marks-acted, true_marks-edited}
 use Rattle.fbc_numbers.proofs.NumbersApart.{differ-acted, differ-edited}
 use Rattle.fbc_numbers.proofs.OpensStand.{stand-acted}
@@ -35,7 +36,7 @@ use Rattle.fbc_numbers.proofs.OpensStandEdits.{stand-edited}
 use Rattle.fbc_numbers.proofs.OpensUncommitted.{uncommitted-acted, uncommitted-edited}
 use Rattle.fbc_numbers.proofs.SnapshotsTrue.{snapshots-acted, snapshots-edited}
 
--- before the first event nothing is open or marked
+-- Before the first event nothing is open or marked.
 pub numbered-start : (shape : Shape) (file : View) → IsNumbered (scene_of shape file [])
 numbered-start shape file = record {
   grow = grow-start shape file;
@@ -48,7 +49,7 @@ numbered-start shape file = record {
 }
 
 module _ (shape : Shape) (file : View) (before : History) (owner : ℕ) (u : IsUpheld (scene_of shape file before)) (k : IsNumbered (scene_of shape file before)) where
-  -- after an act that is neither an edit nor a failed write
+  -- After an act that is neither an edit nor a failed write.
   numbered-plain : (act : Act) (landed : Bool) → IsLegal shape file (happens owner act landed ∷ before) → is_plain act ≡ true → is_edit act ≡ false → IsNumbered (scene_of shape file (happens owner act landed ∷ before))
   numbered-plain act landed legal plain no_edit = record {
     grow = acts-grow shape file before (happens owner act landed) legal no_edit k.grow;
@@ -60,7 +61,7 @@ module _ (shape : Shape) (file : View) (before : History) (owner : ℕ) (u : IsU
     snapshots = snapshots-acted shape file before owner act landed legal u (IsRanked-legal shape file before legal.0).pins k.grow k.true_marks k.marked k.snapshots plain no_edit;
   }
 
-  -- after an edit
+  -- After an edit.
   module _ (page : ℕ) (e : Edit) (landed : Bool) (legal : IsLegal shape file (happens owner (Local (local.Edit page e)) landed ∷ before)) where
     g : GuardOfEdit (scene_of shape file before) owner page e
     g = legal.1.guard
@@ -84,15 +85,7 @@ module _ (shape : Shape) (file : View) (before : History) (owner : ℕ) (u : IsU
       go None is fits = absurd cc
       go (Some content) is fits = fitted content is
 
--- another moment that is no grant may follow what this one may
-follows : (past : History) (moment other : Moment) → Follows past moment → ((owner : ℕ) (resource : Resource) (level : Level) → ¬ IsGrantOf owner resource level moment) → Follows past other
-follows [] moment other is never = tt
-follows (last ∷ before) moment other is never = go last.event.act is where
-  go : (act : Act) → FollowsAct before last.event.actor act moment → FollowsAct before last.event.actor act other
-  go (Ask resource level wait word) was = λ free. absurd (never last.event.actor resource level (was free))
-  go _ was = tt
-
--- a failed write is a death, behind a write if it landed
+-- A failed write is a death, behind a write if it landed.
 module _ (shape : Shape) (file : View) (before : History) (owner page : ℕ) (reason : Cause) (u : IsUpheld (scene_of shape file before)) (k : IsNumbered (scene_of shape file before)) where
   no_grant : (landed : Bool) (actor : ℕ) (resource : Resource) (level : Level) → ¬ IsGrantOf actor resource level (happens owner (Write page reason true) landed)
   no_grant landed actor resource level grant = absurd (let is = grant.act in cc)
@@ -100,21 +93,21 @@ module _ (shape : Shape) (file : View) (before : History) (owner page : ℕ) (re
   lost : IsLegal shape file (happens owner (Write page reason true) false ∷ before) → IsNumbered (scene_of shape file (happens owner (Write page reason true) false ∷ before))
   lost legal =
       let dies : IsLegal shape file (happens owner Die false ∷ before) =
-      (legal.0, record { alive = legal.1.alive; follows = follows before (happens owner (Write page reason true) false) (happens owner Die false) legal.1.follows (no_grant false); guard = tt }) in
+      (legal.0, record { alive = legal.1.alive; follows = follows-also before (happens owner (Write page reason true) false) (happens owner Die false) legal.1.follows (no_grant false); guard = tt }) in
       let n = numbered-plain shape file before owner u k Die false dies refl refl in
       record { grow = n.grow; stand = n.stand; differ = n.differ; uncommitted = n.uncommitted; marked = n.marked; true_marks = n.true_marks; snapshots = n.snapshots }
 
   landed_too : IsLegal shape file (happens owner (Write page reason true) true ∷ before) → IsNumbered (scene_of shape file (happens owner (Write page reason true) true ∷ before))
   landed_too legal =
       let writes : IsLegal shape file (happens owner (Write page reason false) true ∷ before) =
-      (legal.0, record { alive = legal.1.alive; follows = follows before (happens owner (Write page reason true) true) (happens owner (Write page reason false) true) legal.1.follows (no_grant true); guard = legal.1.guard }) in
+      (legal.0, record { alive = legal.1.alive; follows = follows-also before (happens owner (Write page reason true) true) (happens owner (Write page reason false) true) legal.1.follows (no_grant true); guard = legal.1.guard }) in
       let between = numbered-plain shape file before owner u k (Write page reason false) true writes refl refl in
       let held = acts-uphold shape file before (happens owner (Write page reason false) true) writes u refl in
       let dies : IsLegal shape file (happens owner Die true ∷ happens owner (Write page reason false) true ∷ before) = (writes, record { alive = legal.1.alive; follows = tt; guard = tt }) in
       let n = numbered-plain shape file (happens owner (Write page reason false) true ∷ before) owner held between Die true dies refl refl in
       record { grow = n.grow; stand = n.stand; differ = n.differ; uncommitted = n.uncommitted; marked = n.marked; true_marks = n.true_marks; snapshots = n.snapshots }
 
--- after any event
+-- After any event.
 step : (shape : Shape) (file : View) (before : History) (owner : ℕ) (act : Act) (landed : Bool) → IsLegal shape file (happens owner act landed ∷ before) → IsUpheld (scene_of shape file before) → IsNumbered (scene_of shape file before)
     → IsNumbered (scene_of shape file (happens owner act landed ∷ before))
 step shape file before owner (Write page reason true) true legal u k = landed_too shape file before owner page reason u k legal
@@ -129,7 +122,7 @@ step shape file before owner act landed legal u k = numbered-plain shape file be
 pub numbered-step : (shape : Shape) (file : View) (before : History) (moment : Moment) → IsLegal shape file (moment ∷ before) → IsUpheld (scene_of shape file before) → IsNumbered (scene_of shape file before) → IsNumbered (scene_of shape file (moment ∷ before))
 numbered-step shape file before moment legal u k = step shape file before moment.event.actor moment.event.act moment.landed legal u k
 
--- after a whole history
+-- After a whole history.
 pub legal-numbered : (shape : Shape) (file : View) (history : History) → IsLegal shape file history → IsUpheldThroughout shape file history → IsNumbered (scene_of shape file history)
 legal-numbered shape file [] legal upheld = numbered-start shape file
 legal-numbered shape file (moment ∷ before) legal upheld =

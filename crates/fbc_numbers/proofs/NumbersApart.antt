@@ -4,9 +4,10 @@ use Rattle.fbc_kinds.specs.declared.edits.Edit.{Edit}
 use Rattle.fbc_kinds.specs.declared.pages.Page.{Page}
 use Rattle.fbc_kinds.specs.declared.snapshots.Transaction.{Transaction}
 use Rattle.fbc_world.specs.declared.events.Act.{Act}
-use Rattle.fbc_world.specs.Holdings.{page_resource}
+use Rattle.fbc_levels.specs.Resources.{page_resource}
 use Rattle.fbc_world.specs.World.{World, acted, with_edit}
-use Rattle.fbc_legal.specs.Coherent.{IsCoherent, is_usable}
+use Rattle.fbc_legal.specs.Coherent.{IsCoherent}
+use Rattle.fbc_levels.specs.Levels.{is_page_level}
 use Rattle.fbc_legal.specs.Guards.{Guard}
 use Rattle.fbc_legal.specs.Legal.{MayAct}
 use Rattle.fbc_legal.specs.Scene.{Scene}
@@ -20,7 +21,7 @@ module _ (at : Scene) (h : IsCoherent at.world) (stand : OpenNumbersStand at.wor
   abbrev w : World
   w = at.world
 
-  -- a number that begins is no other open one
+  -- A number that begins is no other open one.
   new-differs : (after : World) (first other : ℕ) (t u : Transaction) → Begins at after owner first t → first ≢ other → w.transaction other ≡ Some u → t.number ≢ u.number
   new-differs after first other t u begins apart is = go (stand other u is).begun where
     number_is : t.number ≡ begins.number
@@ -29,7 +30,7 @@ module _ (at : Scene) (h : IsCoherent at.world) (stand : OpenNumbersStand at.wor
     go : IsRaised w other u.number ⊎ IsUnraised w other u.number → t.number ≢ u.number
     go (inl raised) same = absurd (grind (arith, raised.newest, begins.may.next, number_is, same))
     go (inr next) same =
-        absurd (clash (is_usable (w.granted other (page_resource 0))) (rw next.exclusive refl) (excluded w h owner other (page_resource 0) (λ is. apart (begins.same ∙ is)) begins.may.exclusive))
+        absurd (clash (is_page_level (w.granted other (page_resource 0))) (rw next.exclusive refl) (excluded w h owner other (page_resource 0) (λ is. apart (begins.same ∙ is)) begins.may.exclusive))
 
   pub differ-acted : (act : Act) (landed : Bool) → MayAct at owner act → Guard at owner act → is_plain act ≡ true → is_edit act ≡ false → NumbersDiffer (acted at.shape w owner act landed)
   differ-acted act landed may g plain no_edit first other t u apart is also =
@@ -40,7 +41,7 @@ module _ (at : Scene) (h : IsCoherent at.world) (stand : OpenNumbersStand at.wor
         go (inr begins) (inl was) = new-differs (acted at.shape w owner act landed) first other t u begins apart was.was
         go (inr begins) (inr also_begins) = absurd (apart (begins.same ∙ sym also_begins.same))
 
--- an edit begins nothing
+-- An edit begins nothing.
 pub differ-edited : (w : World) (owner page : ℕ) (e : Edit) (content : Page) → w.marked owner ≡ None → NumbersDiffer w → NumbersDiffer (with_edit w owner page e (Some content))
 differ-edited w owner page e content unmarked differ first other t u apart is also =
     differ first other t u apart (open-edited w owner page e content unmarked first t is) (open-edited w owner page e content unmarked other u also)

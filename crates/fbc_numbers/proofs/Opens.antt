@@ -2,6 +2,7 @@
 use Rattle.std.proofs.Common.{◌≡◌, ◌∙◌, ◌==◌, ◌&&◌, ◌⊎◌, ℕ, Bool, true, false, if◌then◌else◌, Option, Some, None, inl, inr, refl, sym, ap, subst, arith}
 use Rattle.std.proofs.lemmas.Option.{same_Some}
 use Rattle.std.proofs.lemmas.Bool.Decides.{nat_tests}
+use Rattle.std.proofs.lemmas.Bool.{and_right}
 use Rattle.fbc_kinds.specs.declared.edits.Edit.{Edit}
 use Rattle.fbc_kinds.specs.declared.edits.Edit.TheVariants as edit
 use Rattle.fbc_kinds.specs.declared.pages.Page.{Page}
@@ -12,11 +13,10 @@ use Rattle.fbc_kinds.specs.Meaning.{meaning_of}
 use Rattle.fbc_levels.specs.declared.levels.Level.{Level}
 use Rattle.fbc_levels.specs.declared.levels.Level.TheVariants.{Ex}
 use Rattle.fbc_levels.specs.declared.resources.Resource.{Resource}
-use Rattle.fbc_levels.specs.Resources.{is_same_resource}
+use Rattle.fbc_levels.specs.Resources.{is_same_resource, page_resource}
 use Rattle.fbc_world.specs.declared.events.Act.{Act}
 use Rattle.fbc_world.specs.declared.events.Act.TheVariants.{Die, Grant, Local, Write}
 use Rattle.fbc_world.specs.declared.events.LocalEvent.TheVariants as local
-use Rattle.fbc_world.specs.Holdings.{page_resource}
 use Rattle.fbc_world.specs.World.{World, acted, dead, is_begin, is_mark_on, is_number_of, mark_after_edit, newest_of, transaction_after_edit, with_edit, written}
 use Rattle.fbc_legal.specs.Guards.{Guard, GuardOfGrant, MayBegin}
 use Rattle.fbc_legal.specs.Legal.{MayAct}
@@ -24,12 +24,12 @@ use Rattle.fbc_legal.specs.Scene.{Scene}
 use Rattle.fbc_legal.proofs.Exclusion.{is_plain, same_number}
 use Rattle.fbc_closed_cuts.specs.Views.{is_edit}
 
--- the transaction was open before, with the same mark or none
+-- The transaction was open before, with the same mark or none.
 pub record WasOpen (w after : World) (owner : ℕ) (t : Transaction) : Type 0 where
   pub was : w.transaction owner ≡ Some t
   pub mark : after.marked owner ≡ w.marked owner
 
--- it begins now
+-- It begins now.
 pub record Begins (at : Scene) (after : World) (actor owner : ℕ) (t : Transaction) : Type 0 where
   pub number : ℕ
   pub word : ℕ
@@ -43,16 +43,12 @@ pub record Begins (at : Scene) (after : World) (actor owner : ℕ) (t : Transact
   pub pinned : after.is_pinned actor 0 ≡ true
   pub exclusive : after.granted actor (page_resource 0) ≡ Ex
 
--- what is begun is no page
+-- What is begun is no page.
 begin_apart : (resource : Resource) (level : Level) (page : ℕ) → is_begin resource level ≡ true → is_same_resource resource (page_resource page) ≡ false
 begin_apart resource level page begins = grind (arith, nat_tests, begins)
 
-not_both : (a b : Bool) → b ≡ false → (a && b) ≡ false
-not_both true b is = is
-not_both false b is = refl
-
 module _ (w : World) (owner : ℕ) where
-  -- at a death the open transaction of another is left
+  -- At a death the open transaction of another is left.
   pub record IsOther (after : World) (other : ℕ) (t : Transaction) : Type 0 where
     pub apart : other == owner ≡ false
     pub open_is : WasOpen w after other t
@@ -79,7 +75,7 @@ module _ (at : Scene) (owner : ℕ) where
     go : (a : Bool) → other == owner ≡ a → (b : Bool) → is_begin resource level ≡ b → (if a && b then Some (begun (meaning_of (newest_of w)) owner resource.key) else w.transaction other) ≡ Some t
         → WasOpen w (acted at.shape w owner (Grant resource level) landed) other t ⊎ Begins at (acted at.shape w owner (Grant resource level) landed) owner other t
     go true its true begins is =
-        inr (record { number = resource.key; word = _; same = same_number other owner its; is = same_Some t _ (sym is); may = g.begins begins; mark = refl; newest = refl; kept = refl; alive = lives; pinned = (g.begins begins).header; exclusive = rw (not_both (owner == owner) _ (begin_apart resource level 0 begins)) (g.begins begins).exclusive })
+        inr (record { number = resource.key; word = _; same = same_number other owner its; is = same_Some t _ (sym is); may = g.begins begins; mark = refl; newest = refl; kept = refl; alive = lives; pinned = (g.begins begins).header; exclusive = rw (and_right (owner == owner) _ (begin_apart resource level 0 begins)) (g.begins begins).exclusive })
     go true its false begins is = inl (record { was = is; mark = refl })
     go false its b begins is = inl (record { was = is; mark = refl })
 
@@ -95,8 +91,8 @@ module _ (at : Scene) (owner : ℕ) where
   open-acted (Local (local.Unpin page)) landed may g plain no_edit other t is = inl (record { was = is; mark = refl })
   open-acted _ landed may g plain no_edit other t is = inl (record { was = is; mark = refl })
 
--- an edit leaves its owner's transaction open, or ends it
-left_open : (e : Edit) (before : Option Transaction) (t : Transaction) → transaction_after_edit e before ≡ Some t → before ≡ Some t
+-- An edit leaves its owner's transaction open, or ends it.
+pub left_open : (e : Edit) (before : Option Transaction) (t : Transaction) → transaction_after_edit e before ≡ Some t → before ≡ Some t
 left_open (edit.Mark number Dead) before t is = go (is_number_of number before) is where
   go : (b : Bool) → (if b then None else before) ≡ Some t → before ≡ Some t
   go true is = absurd cc
@@ -106,7 +102,7 @@ left_open (edit.Mark number Active) before t is = is
 left_open (edit.Mark number Limbo) before t is = is
 left_open e before t is = is
 
--- the mark of an owner that had none
+-- The mark of an owner that had none.
 pub record IsOwnMark (page : ℕ) (e : Edit) (t : Transaction) (marked : ℕ) : Type 0 where
   pub on : marked ≡ page
   pub edit_is : e ≡ edit.Mark t.number Committed
@@ -140,7 +136,7 @@ module _ (w : World) (owner page : ℕ) (e : Edit) (content : Page) (unmarked : 
     go true is = left_open e (w.transaction other) t is
     go false is = is
 
-  -- a mark is another's, or that of the actor's own number
+  -- A mark is another's, or that of the actor's own number.
   pub mark-edited : (other : ℕ) (t : Transaction) (marked : ℕ) → after.transaction other ≡ Some t → after.marked other ≡ Some marked
       → ((other == owner ≡ false) × (w.marked other ≡ Some marked)) ⊎ ((other ≡ owner) × IsOwnMark page e t marked)
   mark-edited other t marked is_open = go (other == owner) refl where
@@ -151,7 +147,7 @@ module _ (w : World) (owner page : ℕ) (e : Edit) (content : Page) (unmarked : 
         inr (same, own_mark page e t marked (subst (λ m. mark_after_edit page e (Some t) m ≡ Some marked) (ap w.marked same ∙ unmarked) (subst (λ o. mark_after_edit page e o (w.marked other) ≡ Some marked) (open-edited other t is_open) is)))
     go false apart is = inl (apart, is)
 
-  -- who has no mark after the edit had none, and has not marked its number as committed
+  -- Who has no mark after the edit had none, and has not marked its number as committed.
   pub unmarked-edited : (other : ℕ) (t : Transaction) → after.transaction other ≡ Some t → after.marked other ≡ None
       → (w.marked other ≡ None) × (other ≡ owner → e ≡ edit.Mark t.number Committed → ⊥)
   unmarked-edited other t is_open = go (other == owner) refl where

@@ -32,7 +32,7 @@ use Rattle.fbc_numbers.proofs.OpensHeld.{held-acted, held-edited}
 use Rattle.fbc_numbers.proofs.OpensNotDead.{not_dead-acted, not_dead-edited}
 use Rattle.fbc_numbers.proofs.OpensOutOfFile.{out-acted, out-edited}
 
--- before the first event nothing is open
+-- Before the first event nothing is open.
 pub apart-start : (shape : Shape) (file : View) → OpensStandApart (scene_of shape file [])
 apart-start shape file = record {
   held = λ owner t is. absurd cc;
@@ -41,7 +41,7 @@ apart-start shape file = record {
   own = λ owner t is. absurd cc;
 }
 
--- a snapshot as it is taken
+-- A snapshot as it is taken.
 own-taken : (at : Scene) (owner number word : ℕ) → MayBegin at owner number word → HoldsOwnNumber (begun (meaning_of (newest_of at.world)) owner number)
 own-taken at owner number word may = record { held = first (number == number) (grind (arith, nat_tests)); above = grind (arith, may.word_is.from_one, may.word_is.to) } where
   first : (b : Bool) → b ≡ true → (b || is_held (committed_numbers (meaning_of (newest_of at.world)).transactions) number) ≡ true
@@ -55,7 +55,7 @@ own-acted at owner own act landed may g plain no_edit other t is = elim (open-ac
 ]
 
 module _ (shape : Shape) (file : View) (before : History) (owner : ℕ) (u : IsUpheld (scene_of shape file before)) (k : IsNumbered (scene_of shape file before)) (o : OpensStandApart (scene_of shape file before)) where
-  -- after an act that is neither an edit nor a failed write
+  -- After an act that is neither an edit nor a failed write.
   apart-plain : (act : Act) (landed : Bool) → IsLegal shape file (happens owner act landed ∷ before) → is_plain act ≡ true → is_edit act ≡ false → OpensStandApart (scene_of shape file (happens owner act landed ∷ before))
   apart-plain act landed legal plain no_edit = record {
     held = held-acted (scene_of shape file before) (requests_true shape file before) (number_waits_bare shape file before legal.0) k.stand o.held owner act landed legal.1.guard plain no_edit;
@@ -64,7 +64,7 @@ module _ (shape : Shape) (file : View) (before : History) (owner : ℕ) (u : IsU
     own = own-acted (scene_of shape file before) owner o.own act landed legal.1.alive legal.1.guard plain no_edit;
   }
 
-  -- after an edit
+  -- After an edit.
   module _ (page : ℕ) (e : Edit) (landed : Bool) (legal : IsLegal shape file (happens owner (Local (local.Edit page e)) landed ∷ before)) where
     abbrev w : World
     w = world_of shape file before
@@ -86,7 +86,7 @@ module _ (shape : Shape) (file : View) (before : History) (owner : ℕ) (u : IsU
       go None is fits = absurd cc
       go (Some content) is fits = fitted content is
 
--- a failed write is a death, behind a write if it landed
+-- A failed write is a death, behind a write if it landed.
 module _ (shape : Shape) (file : View) (before : History) (owner page : ℕ) (reason : Cause) (u : IsUpheld (scene_of shape file before)) (k : IsNumbered (scene_of shape file before)) (o : OpensStandApart (scene_of shape file before)) where
   lost : IsLegal shape file (happens owner (Write page reason true) false ∷ before) → OpensStandApart (scene_of shape file (happens owner (Write page reason true) false ∷ before))
   lost legal =
@@ -103,7 +103,7 @@ module _ (shape : Shape) (file : View) (before : History) (owner page : ℕ) (re
       let n = apart-plain shape file (happens owner (Write page reason false) true ∷ before) owner held numbered between Die true dies refl refl in
       record { held = n.held; not_dead = n.not_dead; out_of_file = n.out_of_file; own = n.own }
 
--- after any event
+-- After any event.
 step : (shape : Shape) (file : View) (before : History) (owner : ℕ) (act : Act) (landed : Bool) → IsLegal shape file (happens owner act landed ∷ before) → IsUpheld (scene_of shape file before) → IsNumbered (scene_of shape file before)
     → OpensStandApart (scene_of shape file before) → OpensStandApart (scene_of shape file (happens owner act landed ∷ before))
 step shape file before owner (Write page reason true) true legal u k o = landed_too shape file before owner page reason u k o legal
@@ -119,7 +119,7 @@ pub apart-step : (shape : Shape) (file : View) (before : History) (moment : Mome
     → OpensStandApart (scene_of shape file (moment ∷ before))
 apart-step shape file before moment legal u k o = step shape file before moment.event.actor moment.event.act moment.landed legal u k o
 
--- after a whole history
+-- After a whole history.
 pub legal-apart : (shape : Shape) (file : View) (history : History) → IsLegal shape file history → IsUpheldThroughout shape file history → OpensStandApart (scene_of shape file history)
 legal-apart shape file [] legal upheld = apart-start shape file
 legal-apart shape file (moment ∷ before) legal upheld =

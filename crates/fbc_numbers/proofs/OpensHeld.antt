@@ -32,14 +32,14 @@ use Rattle.fbc_numbers.proofs.Opens.{open-dead, open-edited, open-written}
 exclusive_is : (level : Level) → is_exclusive level ≡ true → level ≡ Ex
 exclusive_is level is = grind (arith, is)
 
--- what begins is a number
+-- What begins is a number.
 begun_number : (resource : Resource) (level : Level) → is_begin resource level ≡ true → is_same_resource resource (number_resource resource.key) ≡ true
 begun_number resource level begins = grind (arith, nat_tests, begins)
 
 begun_exclusive : (resource : Resource) (level : Level) → is_begin resource level ≡ true → is_exclusive level ≡ true
 begun_exclusive resource level begins = grind (arith, nat_tests, begins)
 
--- a number that does not begin is not granted in EX
+-- A number that does not begin is not granted in EX.
 low_number : (resource : Resource) (level : Level) (number : ℕ) → is_begin resource level ≡ false → is_same_resource resource (number_resource number) ≡ true → is_exclusive level ≡ false
 low_number resource level number never same = grind (arith, nat_tests, never, same)
 
@@ -47,14 +47,14 @@ module _ (at : Scene) (requests : AreRequestsTrue at.world) (bare : NumberWaitsA
   abbrev w : World
   w = at.world
 
-  -- the owner waits for nothing below EX on the number that it has in EX
+  -- The owner waits for nothing below EX on the number that it has in EX.
   raised : (resource : Resource) (level : Level) → GuardOfGrant at owner resource level → is_begin resource level ≡ false → (t : Transaction) → w.transaction owner ≡ Some t → is_same_resource resource (number_resource t.number) ≡ true → ⊥
   raised resource level g never t is same =
       let waits : waiting_of w.locks owner (number_resource t.number) ≡ Some level = subst (λ r. waiting_of w.locks owner r ≡ Some level) (same_resource resource (number_resource t.number) same) g.wanted in
       let free : w.granted owner (number_resource t.number) ≡ Free = waits_bare-number w bare requests owner t.number level waits (low_number resource level t.number never same) in
       let both : Ex ≡ Free = sym (held owner t is) ∙ free in cc
 
-  -- a level that is changed is not that of the open number
+  -- A level that is changed is not that of the open number.
   elsewhere : (resource : Resource) (level : Level) (other : ℕ) (t : Transaction) → w.transaction other ≡ Some t → (other ≡ owner → is_same_resource resource (number_resource t.number) ≡ true → ⊥)
       → (if (other == owner) && is_same_resource resource (number_resource t.number) then level else w.granted other (number_resource t.number)) ≡ Ex
   elsewhere resource level other t is never = go (other == owner) refl (is_same_resource resource (number_resource t.number)) refl where
@@ -105,6 +105,6 @@ module _ (at : Scene) (requests : AreRequestsTrue at.world) (bare : NumberWaitsA
   held-acted (Local (local.Unpin page)) landed g plain no_edit other t is = held other t is
   held-acted _ landed g plain no_edit other t is = held other t is
 
--- an edit changes no level
+-- An edit changes no level.
 pub held-edited : (w : World) (owner page : ℕ) (e : Edit) (content : Page) → w.marked owner ≡ None → OpensAreHeld w → OpensAreHeld (with_edit w owner page e (Some content))
 held-edited w owner page e content unmarked held other t is = held other t (open-edited w owner page e content unmarked other t is)

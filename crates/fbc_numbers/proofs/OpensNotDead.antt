@@ -40,7 +40,7 @@ use Rattle.fbc_numbers.proofs.NamedTips.{next_grown, next_in}
 use Rattle.fbc_numbers.proofs.Opens.{Begins, WasOpen, open-acted, open-edited}
 use Rattle.fbc_numbers.proofs.PageStates.{state_at}
 
--- a number that is dead in a sound view was begun
+-- A number that is dead in a sound view was begun.
 pub dead-begun : (seen : View) → IsSound seen → (number : ℕ) → state_of seen number ≡ Dead → number < next_of seen
 dead-begun seen sound number is = go (tip_of seen (number / tip_numbers (size_of seen))) refl is where
   there : (page : ℕ) → tip_of seen (number / tip_numbers (size_of seen)) ≡ Some page → (o : Option State) → state_in (seen page) (number % tip_numbers (size_of seen)) ≡ o → unwrap_or o Active ≡ Dead → number < next_of seen
@@ -53,7 +53,7 @@ dead-begun seen sound number is = go (tip_of seen (number / tip_numbers (size_of
   go None named dead = absurd cc
   go (Some page) named dead = there page named (state_in (seen page) (number % tip_numbers (size_of seen))) refl dead
 
--- the next number of a view is at most the newest one
+-- The next number of a view is at most the newest one.
 pub next_within : (at : Scene) → IsUpheld at → (cut : Cut) → next_of (view at.world cut) ≤ next_of (newest_of at.world)
 next_within at u cut = go (cut 0) where
   grown : next_in (at.world.kept 0) ≤ next_in (newest_of at.world 0)
@@ -98,7 +98,7 @@ module _ (shape : Shape) (file : View) (before : History) (moment : Moment) (leg
   pub not_dead-acted : OpensAreNotDead after
   not_dead-acted other t cut is closed dead = dead-before cut closed other t dead (open-acted at moment.event.actor moment.event.act moment.landed legal.1.alive legal.1.guard plain no_edit other t is)
 
--- SR does not go beside EX
+-- SR does not go beside EX.
 shared_beside : (a b : Level) → a ≡ Sr → b ≡ Ex → is_compatible a b ≡ true → ⊥
 shared_beside a b shared exclusive beside = absurd (grind (arith, shared, exclusive, beside))
 
@@ -114,7 +114,7 @@ module _ (shape : Shape) (file : View) (before : History) (owner page : ℕ) (e 
   abbrev now : World
   now = world_of shape file (happens owner (Local (local.Edit page e)) landed ∷ before)
 
-  -- a mark of dead ends the owner's own transaction
+  -- A mark of dead ends the owner's own transaction.
   ends : (other number : ℕ) (t : Transaction) → other ≡ owner → t.number ≡ number → world.transaction other ≡ Some t → (with_edit world owner page (edit.Mark number Dead) (Some content)).transaction other ≡ None
   ends other number t its same open_is = rw open_is (grind (arith, nat_tests, its, same))
 
@@ -148,6 +148,6 @@ module _ (shape : Shape) (file : View) (before : History) (owner page : ℕ) (e 
         go (inl same) = not_dead other t (drafted_in world cut) was (edited-closed shape file before owner page e landed legal u grow uncommitted content is cut closed) (sym same ∙ dead)
         go (inr marks) = never-marked other t was opened (subst (λ s. e ≡ edit.Mark t.number s) dead marks)
 
--- nor do the newest pages
+-- Nor do the newest pages.
 pub newest-not_dead : (w : World) → OpensAreNotDead w → (owner : ℕ) (t : Transaction) → w.transaction owner ≡ Some t → ¬ (state_of (newest_of w) t.number ≡ Dead)
 newest-not_dead w not_dead owner t is = subst (λ (v : View). ¬ (state_of v t.number ≡ Dead)) (all-view w) (not_dead owner t (all_drafts w) is (all-closed w))

@@ -1,6 +1,6 @@
 -- The file shows no open number as committed: after every act but a failed write.
 use Rattle.std.proofs.Common.{◌≡◌, ◌≢◌, ◌∙◌, ◌==◌, ◌&&◌, ◌∷◌, ◌/◌, ℕ, Bool, true, false, if◌then◌else◌, Some, None, inl, inr, refl, sym, ap, subst, arith}
-use Rattle.std.proofs.lemmas.Bool.{cases_eq}
+use Rattle.std.proofs.lemmas.Bool.{cases_eq, false_from_ne_true}
 use Rattle.std.proofs.lemmas.Bool.Decides.{nat_tests}
 use Rattle.fbc_kinds.specs.declared.edits.Edit.{Edit}
 use Rattle.fbc_kinds.specs.declared.pages.Page.{Page}
@@ -26,7 +26,7 @@ use Rattle.fbc_numbers.specs.Numbers.{CommitsAreMarked, CommitsGrow, IsMarkedBy,
 use Rattle.fbc_numbers.specs.Opens.{OpensAreOutOfFile}
 use Rattle.fbc_numbers.proofs.ActCommits.{acts-grow, newest-before}
 use Rattle.fbc_numbers.proofs.CommitsMarked.{kept-size, mark-of}
-use Rattle.fbc_numbers.proofs.CutFacts.{clash, committed-newest, false_from, no_draft, none-closed}
+use Rattle.fbc_numbers.proofs.CutFacts.{clash, committed-newest, no_draft, none-closed}
 use Rattle.fbc_numbers.proofs.NamedTips.{tip_grown}
 use Rattle.fbc_numbers.proofs.Opens.{Begins, open-acted, open-edited, open-written}
 use Rattle.fbc_numbers.proofs.OpensNotDead.{next_within}
@@ -38,7 +38,7 @@ module _ (at : Scene) (u : IsUpheld at) (true_marks : MarksAreTrue at.shape at.w
   abbrev w : World
   w = at.world
 
-  -- a number that a write brings into the file has its mark on that page, and is open no more
+  -- A number that a write brings into the file has its mark on that page, and is open no more.
   module _ (other : ℕ) (t : Transaction) (still : (written w owner page).transaction other ≡ Some t) (size : size_of (written w owner page).kept ≡ at.shape.size) where
     over : other ≡ owner → is_mark_on page (w.marked other) ≡ true → ⊥
     over same on = by ((other == owner) && is_mark_on page (w.marked other)) (grind (arith, nat_tests, same, on)) still where
@@ -80,13 +80,13 @@ module _ (shape : Shape) (file : View) (before : History) (owner : ℕ) (u : IsU
   abbrev world : World
   world = scene.world
 
-  -- a write
+  -- A write.
   module _ (page : ℕ) (reason : Cause) (landed : Bool) (legal : IsLegal shape file (happens owner (Write page reason false) landed ∷ before)) (v : IsUpheld (scene_of shape file (happens owner (Write page reason false) landed ∷ before))) where
     abbrev after : World
     after = world_of shape file (happens owner (Write page reason false) landed ∷ before)
 
     out-written : OpensAreOutOfFile after
-    out-written other t is = false_from (is_committed_in after.kept t.number) (λ committed. go committed (by committed)) where
+    out-written other t is = false_from_ne_true (is_committed_in after.kept t.number) (λ committed. go committed (by committed)) where
       was : world.transaction other ≡ Some t
       was = (open-written world owner page other t is).was
 
@@ -110,13 +110,13 @@ module _ (shape : Shape) (file : View) (before : History) (owner : ℕ) (u : IsU
           (mark-elsewhere scene u true_marks owner page legal.1.guard.drafted other t is (kept-size (scene_of shape file (happens owner (Write page reason false) landed ∷ before)) v) (subst (λ o. IsMarkedBy world o t.number) (its_own m.0 m.1) m.1) committed)
           (out other t was)
 
-  -- any other act leaves the file; what begins is not there yet
+  -- Any other act leaves the file; what begins is not there yet.
   module _ (act : Act) (landed : Bool) (legal : IsLegal shape file (happens owner act landed ∷ before)) (plain : is_plain act ≡ true) (no_edit : is_edit act ≡ false) where
     abbrev later : World
     later = world_of shape file (happens owner act landed ∷ before)
 
     new-out : (other : ℕ) (t : Transaction) → Begins scene later owner other t → is_committed_in world.kept t.number ≡ false
-    new-out other t begins = false_from _ never where
+    new-out other t begins = false_from_ne_true _ never where
       never : is_committed_in world.kept t.number ≡ true → ⊥
       never committed =
           let below = committed-begun world.kept (u.sound no_draft (none-closed world)) t.number committed in
@@ -140,6 +140,6 @@ module _ (shape : Shape) (file : View) (before : History) (owner : ℕ) (u : IsU
   out-acted (Local (local.Unpin page)) landed legal v plain no_edit = out-still (Local (local.Unpin page)) landed legal plain no_edit refl
   out-acted act landed legal v plain no_edit = out-still act landed legal plain no_edit refl
 
--- an edit leaves the file
+-- An edit leaves the file.
 pub out-edited : (w : World) (owner page : ℕ) (e : Edit) (content : Page) → w.marked owner ≡ None → OpensAreOutOfFile w → OpensAreOutOfFile (with_edit w owner page e (Some content))
 out-edited w owner page e content unmarked out other t is = out other t (open-edited w owner page e content unmarked other t is)

@@ -1,16 +1,15 @@
 -- Each open transaction is its living owner's, and has begun: after every act but an edit or a failed write.
 use Rattle.std.proofs.Common.{◌≡◌, ◌∙◌, ◌<◌, ◌==◌, ◌&&◌, ◌⊎◌, ℕ, Bool, true, false, if◌then◌else◌, Some, None, inl, inr, refl, sym, ap, subst, arith}
-use Rattle.std.proofs.lemmas.Bool.Decides.{nat_tests}
 use Rattle.fbc_kinds.specs.declared.snapshots.Transaction.{Transaction}
 use Rattle.fbc_kinds.specs.View.{next_of}
 use Rattle.fbc_levels.specs.declared.levels.Level.{Level}
 use Rattle.fbc_levels.specs.declared.levels.Level.TheVariants.{Ex, Free}
 use Rattle.fbc_levels.specs.declared.resources.Resource.{Resource}
-use Rattle.fbc_levels.specs.Resources.{is_same_resource}
+use Rattle.fbc_levels.specs.Resources.{is_same_resource, page_resource}
 use Rattle.fbc_world.specs.declared.events.Act.{Act}
 use Rattle.fbc_world.specs.declared.events.Act.TheVariants.{Die, Enter, Grant, Leave, Local, Lower, Opened, Reap, Write}
 use Rattle.fbc_world.specs.declared.events.LocalEvent.TheVariants as local
-use Rattle.fbc_world.specs.Holdings.{is_draft_of, page_resource}
+use Rattle.fbc_world.specs.Holdings.{is_draft_of}
 use Rattle.fbc_world.specs.World.{World, acted, dead, newest_of, written}
 use Rattle.fbc_legal.specs.Coherent.{IsCoherent}
 use Rattle.fbc_legal.specs.Guards.{Guard, GuardOfGrant, GuardOfLower}
@@ -25,14 +24,12 @@ use Rattle.fbc_numbers.proofs.CutFacts.{clash}
 use Rattle.fbc_numbers.proofs.NamedTips.{next_in}
 use Rattle.fbc_numbers.proofs.Opens.{Begins, IsOther, open-acted, open-dead}
 use Rattle.fbc_numbers.proofs.PageDrafts.{dead-kept, dead-newest, draft_spared, not_drafter, written-kept, written-newest}
-
-same_resource : (a b : Resource) → is_same_resource a b ≡ true → a ≡ b
-same_resource a b same = grind (arith, nat_tests)
+use Rattle.fbc_lock_table.proofs.Ways.{same_resource}
 
 abbrev pub HasBegun : World → ℕ → ℕ → Type 0
 HasBegun w owner number = IsRaised w owner number ⊎ IsUnraised w owner number
 
--- what keeps a number that has begun so
+-- What keeps a number that has begun so.
 pub record Carries (w after : World) (owner number : ℕ) : Type 0 where
   pub newest : next_of (newest_of after) ≡ next_of (newest_of w)
   pub kept : next_of after.kept ≡ next_of w.kept
@@ -48,7 +45,7 @@ carried w after owner number c (inl raised) = inl (record { newest = rw c.newest
 carried w after owner number c (inr next) = inr (record { next = next.next ∙ sym c.newest; pinned = c.pinned next; exclusive = c.exclusive next })
 
 module _ (w : World) (h : IsCoherent w) (owner other number : ℕ) where
-  -- another's death
+  -- Another's death.
   begun-dead : other == owner ≡ false → HasBegun w other number → HasBegun (dead w owner) other number
   begun-dead apart (inl raised) = go (is_draft_of owner (w.draft 0)) refl raised.in_file where
     go : (b : Bool) → is_draft_of owner (w.draft 0) ≡ b → (number < next_of w.kept) ⊎ (is_draft_of other (w.draft 0) ≡ true) → HasBegun (dead w owner) other number
@@ -64,7 +61,7 @@ module _ (w : World) (h : IsCoherent w) (owner other number : ℕ) where
       let none = not_drafter owner other (w.draft 0) apart (exclusive-own w h other 0 next.exclusive) in
       inr (record { next = next.next ∙ sym (ap next_in (dead-newest w owner 0 none)); pinned = rw apart next.pinned; exclusive = next.exclusive })
 
-  -- a write
+  -- A write.
   begun-written : (page : ℕ) → is_draft_of owner (w.draft page) ≡ true → HasBegun w other number → HasBegun (written w owner page) other number
   begun-written page its (inl raised) = inl (record { newest = subst (λ o. number < next_in o) (sym (written-newest w owner page its 0)) raised.newest; in_file = go (0 == page) refl raised.in_file }) where
     go : (b : Bool) → 0 == page ≡ b → (number < next_of w.kept) ⊎ (is_draft_of other (w.draft 0) ≡ true) → (number < next_of (written w owner page).kept) ⊎ (is_draft_of other ((written w owner page).draft 0) ≡ true)
@@ -78,7 +75,7 @@ module _ (at : Scene) (h : IsCoherent at.world) (t : AreRequestsTrue at.world) (
   w = at.world
 
   module _ (resource : Resource) (level : Level) (other number : ℕ) (next : IsUnraised w other number) where
-    -- a changed level is not that of the header
+    -- A changed level is not that of the header.
     elsewhere : (other ≡ owner → resource ≡ page_resource 0 → ⊥) → (if (other == owner) && is_same_resource resource (page_resource 0) then level else w.granted other (page_resource 0)) ≡ Ex
     elsewhere never = go (other == owner) refl (is_same_resource resource (page_resource 0)) refl where
       go : (a : Bool) → other == owner ≡ a → (b : Bool) → is_same_resource resource (page_resource 0) ≡ b → (if a && b then level else w.granted other (page_resource 0)) ≡ Ex
@@ -127,7 +124,7 @@ module _ (at : Scene) (h : IsCoherent at.world) (t : AreRequestsTrue at.world) (
       go true its false apart = next.pinned
       go false its b any = next.pinned
 
-    -- what was open has begun after each act
+    -- What was open has begun after each act.
     begun-acted : (act : Act) (landed : Bool) → Guard at owner act → is_plain act ≡ true → is_edit act ≡ false → w.transaction other ≡ Some u → (acted at.shape w owner act landed).transaction other ≡ Some u → IsOpenNumber (acted at.shape w owner act landed) other u
     begun-acted (Opened locks) landed g plain no_edit before after = absurd (clash _ was.alive (g.none_alive other))
     begun-acted (Enter buffers name) landed g plain no_edit before after =
@@ -178,7 +175,7 @@ module _ (at : Scene) (h : IsCoherent at.world) (t : AreRequestsTrue at.world) (
     begun-acted _ landed g plain no_edit before after =
         record { own = was.own; opened = was.opened; alive = was.alive; begun = carried w _ other u.number (record { newest = refl; kept = refl; draft = λ d. d; pinned = λ n. n.pinned; exclusive = λ n. n.exclusive }) was.begun }
 
-  -- what begins has begun
+  -- What begins has begun.
   begins-stands : (after : World) (other : ℕ) (u : Transaction) → Begins at after owner other u → IsOpenNumber after other u
   begins-stands after other u b =
       subst (λ v. IsOpenNumber after other v) (sym b.is)

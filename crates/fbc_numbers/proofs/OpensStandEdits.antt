@@ -6,10 +6,12 @@ use Rattle.fbc_kinds.specs.declared.edits.Edit.{Edit}
 use Rattle.fbc_kinds.specs.declared.pages.Page.{Page}
 use Rattle.fbc_kinds.specs.declared.snapshots.Transaction.{Transaction}
 use Rattle.fbc_kinds.specs.View.{next_of}
-use Rattle.fbc_views.specs.Allowed.{Fits}
-use Rattle.fbc_world.specs.Holdings.{is_draft_of, page_resource}
+use Rattle.fbc_page_edits.specs.Allowed.{Fits}
+use Rattle.fbc_world.specs.Holdings.{is_draft_of}
+use Rattle.fbc_levels.specs.Resources.{page_resource}
 use Rattle.fbc_world.specs.World.{World, newest_of, with_edit}
-use Rattle.fbc_legal.specs.Coherent.{IsCoherent, is_usable}
+use Rattle.fbc_legal.specs.Coherent.{IsCoherent}
+use Rattle.fbc_levels.specs.Levels.{is_page_level}
 use Rattle.fbc_legal.specs.Guards.{GuardOfEdit}
 use Rattle.fbc_legal.specs.Rows.{IsEditOfRow, IsNext}
 use Rattle.fbc_legal.specs.Scene.{Scene}
@@ -31,13 +33,13 @@ module _ (at : Scene) (h : IsCoherent at.world) (owner : ℕ) (e : Edit) (conten
   edited page = with_edit w owner page e (Some content)
 
   module _ (other : ℕ) (u : Transaction) (is_open : w.transaction other ≡ Some u) where
-    -- an edit of the header
+    -- An edit of the header.
     module _ (g : GuardOfEdit at owner 0 e) (fits : Fits at.shape e (newest_of w 0) content) where
       no_other : other ≢ owner → is_draft_of other (w.draft 0) ≡ true → ⊥
       no_other apart its = apart (same_number other owner (own_of owner other (w.draft 0) (exclusive-own w h owner 0 g.exclusive) its))
 
       no_next : other ≢ owner → IsUnraised w other u.number → ⊥
-      no_next apart next = clash (is_usable (w.granted other (page_resource 0))) (rw next.exclusive refl) (excluded w h owner other (page_resource 0) (λ same. apart (sym same)) g.exclusive)
+      no_next apart next = clash (is_page_level (w.granted other (page_resource 0))) (rw next.exclusive refl) (excluded w h owner other (page_resource 0) (λ same. apart (sym same)) g.exclusive)
 
       draft-kept : is_draft_of other (w.draft 0) ≡ true → is_draft_of other ((edited 0).draft 0) ≡ true
       draft-kept its = elim (cases_eq other owner) [
@@ -45,11 +47,11 @@ module _ (at : Scene) (h : IsCoherent at.world) (owner : ℕ) (e : Edit) (conten
         | inr apart ↦ absurd (no_other apart its)
       ]
 
-      -- the next number is the same
+      -- The next number is the same.
       same-next : next_in (Some content) ≡ next_in (newest_of w 0) → HasBegun w other u.number → HasBegun (edited 0) other u.number
       same-next same begun = carried w (edited 0) other u.number (record { newest = same; kept = refl; draft = draft-kept; pinned = λ n. n.pinned; exclusive = λ n. n.exclusive }) begun
 
-      -- the next number is raised
+      -- The next number is raised.
       module _ (sets : SetsNext e content) (row : IsNext at owner sets.next) where
         now : next_of (newest_of (edited 0)) ≡ sets.next
         now = sets.now
@@ -75,7 +77,7 @@ module _ (at : Scene) (h : IsCoherent at.world) (owner : ℕ) (e : Edit) (conten
         | inr sets ↦ raised sets (subst (IsEditOfRow at owner 0) sets.is g.row) begun
       ]
 
-    -- an edit of another page
+    -- An edit of another page.
     begun-elsewhere : (page : ℕ) → 0 == page ≡ false → HasBegun w other u.number → HasBegun (edited page) other u.number
     begun-elsewhere page apart begun =
         carried w (edited page) other u.number (record { newest = rw apart refl; kept = refl; draft = λ d. rw apart d; pinned = λ n. n.pinned; exclusive = λ n. n.exclusive }) begun

@@ -1,6 +1,6 @@
 -- An open transaction that is not marked as committed is not so in the newest pages: after every act but a failed write.
 use Rattle.std.proofs.Common.{◌≡◌, ◌∙◌, ◌==◌, ◌∷◌, ◌⊎◌, ℕ, Bool, true, false, if◌then◌else◌, Some, None, inl, inr, refl, sym, ap, subst, arith}
-use Rattle.std.proofs.lemmas.Bool.{cases_eq}
+use Rattle.std.proofs.lemmas.Bool.{cases_eq, false_from_ne_true}
 use Rattle.fbc_kinds.specs.declared.edits.Edit.{Edit}
 use Rattle.fbc_kinds.specs.declared.edits.Edit.TheVariants as edit
 use Rattle.fbc_kinds.specs.declared.pages.Page.{Page}
@@ -23,12 +23,12 @@ use Rattle.fbc_closed_cuts.specs.Upheld.{IsUpheld}
 use Rattle.fbc_closed_cuts.specs.Views.{is_edit}
 use Rattle.fbc_numbers.specs.Numbers.{CommitsGrow, NumbersDiffer, OpensAreUncommitted, is_committed_in}
 use Rattle.fbc_numbers.proofs.ActCommits.{newest-before}
-use Rattle.fbc_numbers.proofs.CutFacts.{all-closed, all-view, all_drafts, clash, false_from}
+use Rattle.fbc_numbers.proofs.CutFacts.{all-closed, all-view, all_drafts, clash}
 use Rattle.fbc_numbers.proofs.EditCommits.{committed_by, mark_of, newest-edited}
 use Rattle.fbc_numbers.proofs.Opens.{Begins, WasOpen, open-acted, unmarked-edited, open-edited}
 use Rattle.fbc_numbers.proofs.StatesNamed.{committed-begun}
 
--- the newest pages are sound
+-- The newest pages are sound.
 pub newest-sound : (at : Scene) → IsUpheld at → IsSound (newest_of at.world)
 newest-sound at u = subst IsSound (all-view at.world) (u.sound (all_drafts at.world) (all-closed at.world))
 
@@ -50,7 +50,7 @@ module _ (shape : Shape) (file : View) (before : History) (moment : Moment) (leg
       absurd (grind (arith, below, begins.may.next, number_is))
 
   pub uncommitted-acted : OpensAreUncommitted after
-  uncommitted-acted other t is unmarked = false_from _ (λ committed. go (newest-before shape file before moment legal no_edit grow t.number committed) (open-acted at moment.event.actor moment.event.act moment.landed legal.1.alive legal.1.guard plain no_edit other t is)) where
+  uncommitted-acted other t is unmarked = false_from_ne_true _ (λ committed. go (newest-before shape file before moment legal no_edit grow t.number committed) (open-acted at moment.event.actor moment.event.act moment.landed legal.1.alive legal.1.guard plain no_edit other t is)) where
     go : is_committed_in (newest_of w) t.number ≡ true → WasOpen w after other t ⊎ Begins at after moment.event.actor other t → ⊥
     go committed (inl was) = clash _ committed (uncommitted other t was.was (sym was.mark ∙ unmarked))
     go committed (inr begins) = new-uncommitted other t begins committed
@@ -70,7 +70,7 @@ module _ (shape : Shape) (file : View) (before : History) (owner page : ℕ) (e 
   guard = legal.1.guard
 
   module _ (other : ℕ) (t : Transaction) (was : world.transaction other ≡ Some t) where
-    -- the number is not marked as committed by an owner of which it is not
+    -- The number is not marked as committed by an owner of which it is not.
     not_commit : (number : ℕ) (state : State) → IsMark scene owner page number state → t.number ≡ number → (other ≡ owner → state ≡ Committed → ⊥) → is_committed_state state ≡ false
     not_commit number Committed row same never = elim (cases_eq other owner) [
       | inl own ↦ absurd (never own refl)

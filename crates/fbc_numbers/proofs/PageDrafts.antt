@@ -20,17 +20,17 @@ newest_lost : (owner : ℕ) (kept : Option Page) (d : Option Draft) → is_draft
 newest_lost owner kept None its = absurd cc
 newest_lost owner kept (Some d) its = rw its refl
 
--- a draft of nobody, or of another, is left
+-- A draft of nobody, or of another, is left.
 pub draft_spared : (owner : ℕ) (d : Option Draft) → is_draft_of owner d ≡ false → without owner d ≡ d
 draft_spared owner None none = refl
 draft_spared owner (Some d) none = rw none refl
 
--- an own draft is no draft of another
+-- An own draft is no draft of another.
 pub not_drafter : (owner other : ℕ) (d : Option Draft) → other == owner ≡ false → IsOwnDraft other d → is_draft_of owner d ≡ false
 not_drafter owner other None apart own = refl
 not_drafter owner other (Some d) apart own = grind (arith, nat_tests, apart, own)
 
--- a draft that is left was there
+-- A draft that is left was there.
 pub draft_left : (owner other : ℕ) (d : Option Draft) → is_draft_of other (without owner d) ≡ true → is_draft_of other d ≡ true
 draft_left owner other None its = absurd cc
 draft_left owner other (Some d) its = go (d.owner == owner) its where

@@ -13,30 +13,30 @@ use Rattle.fbc_kinds.specs.declared.shapes.Shape.{Shape}
 use Rattle.fbc_kinds.specs.Edits.{given}
 use Rattle.fbc_kinds.specs.Limits.{tip_numbers}
 use Rattle.fbc_kinds.specs.View.{View, header_in, size_of, state_in, tip_of}
-use Rattle.fbc_views.specs.Alike.{HaveSameStates}
-use Rattle.fbc_views.specs.Allowed.{Fits}
-use Rattle.fbc_views.specs.Edited.{with_page}
-use Rattle.fbc_views.proofs.Changed.{changed_elsewhere, changed_here, read_alike}
-use Rattle.fbc_views.proofs.Fitted.{AddsTip, ChangesHeader, adds_inventory, adds_pointer, adds_tip, frees_mark, given_some, names_slot, raises_next, takes_mark, unnames_slot}
-use Rattle.fbc_views.proofs.Pushed.{pushed}
+use Rattle.fbc_page_edits.specs.Alike.{HaveSameStates}
+use Rattle.fbc_page_edits.specs.Allowed.{Fits}
+use Rattle.fbc_page_edits.specs.Edited.{with_page}
+use Rattle.fbc_page_edits.proofs.Changed.{changed_elsewhere, changed_here, read_alike}
+use Rattle.fbc_page_edits.proofs.Fitted.{AddsTip, ChangesHeader, adds_inventory, adds_pointer, adds_tip, frees_mark, given_some, names_slot, raises_next, takes_mark, unnames_slot}
+use Rattle.fbc_page_edits.proofs.Pushed.{pushed}
 
--- the size that a page gives as a header, and the transaction inventory page that it names
+-- The size that a page gives as a header, and the transaction inventory page that it names.
 abbrev pub size_in : Option Page → ℕ
 size_in page = option_map_or (λ (h : Header). h.size) (header_in page) 0
 
 abbrev pub tip_in : Option Page → ℕ → Option ℕ
 tip_in page sequence = option_and_then (λ (h : Header). slice_get h.tips sequence) (header_in page)
 
--- the state at a place of a transaction inventory page
+-- The state at a place of a transaction inventory page.
 abbrev pub state_at : View → ℕ → Option ℕ → State
 state_at seen place tip = unwrap_or (option_and_then (λ (t : ℕ). state_in (seen t) place) tip) Active
 
--- views that show the same of each sequence have the same states
+-- Views that show the same of each sequence have the same states.
 pub same_shown : (before after : View) → size_of after ≡ size_of before → ((sequence place : ℕ) → state_at after place (tip_of after sequence) ≡ state_at before place (tip_of before sequence)) → HaveSameStates before after
 same_shown before after size same number =
     ap (λ n. state_at after (number % tip_numbers n) (tip_of after (number / tip_numbers n))) size ∙ same (number / tip_numbers (size_of before)) (number % tip_numbers (size_of before))
 
--- two contents of a page show the same of the states
+-- Two contents of a page show the same of the states.
 pub record ShowTheSame (old new : Option Page) : Type 0 where
   pub size : size_in new ≡ size_in old
   pub tips : (sequence : ℕ) → tip_in new sequence ≡ tip_in old sequence
@@ -55,7 +55,7 @@ module _ (view : View) (number : ℕ) (content : Page) where
     shown : (sequence place : ℕ) → state_at after place (tip_of after sequence) ≡ state_at view place (tip_of view sequence)
     shown sequence place = ap (state_at after place) (read_alike view number content (λ n o. tip_in o sequence) (same.tips sequence) 0) ∙ read place (tip_of view sequence)
 
-  -- a page that is no header and no transaction inventory page of the view may change at will
+  -- A page that is no header and no transaction inventory page of the view may change at will.
   pub off_states : number ≢ 0 → ((sequence : ℕ) → ¬ (tip_of view sequence ≡ Some number)) → HaveSameStates view after
   off_states apart none = same_shown view after (ap size_in header) shown where
     header : after 0 ≡ view 0
@@ -69,7 +69,7 @@ module _ (view : View) (number : ℕ) (content : Page) where
     shown : (sequence place : ℕ) → state_at after place (tip_of after sequence) ≡ state_at view place (tip_of view sequence)
     shown sequence place = ap (λ p. state_at after place (tip_in p sequence)) header ∙ read place sequence (tip_of view sequence) refl
 
--- a header that names one more transaction inventory page, on which every number is active
+-- A header that names one more transaction inventory page, on which every number is active.
 module _ (view : View) (number page : ℕ) (content : Page) (adds : AddsTip (view number) page content) (active : (place : ℕ) → unwrap_or (state_in (view page) place) Active ≡ Active) where
   abbrev added : View
   added = with_page view number content
@@ -109,7 +109,7 @@ module _ (view : View) (number page : ℕ) (content : Page) (adds : AddsTip (vie
     | inr apart ↦ same_shown view added size (elsewhere apart)
   ]
 
--- every edit but a mark, a format and one more transaction inventory page
+-- Every edit but a mark, a format and one more transaction inventory page.
 abbrev pub is_still : Edit → Bool
 is_still (edit.Mark number state) = false
 is_still (edit.AddTip page) = false
@@ -151,11 +151,11 @@ still_shows shape (edit.Unname slot) old content still fits =
     page_shows old _ _ content m.stands m.made (record { size = refl; tips = λ s. refl; states = λ p. refl })
 still_shows shape _ old content still fits = absurd cc
 
--- such an edit leaves the states
+-- Such an edit leaves the states.
 pub still_states : (shape : Shape) (view : View) (number : ℕ) (e : Edit) (content : Page) → is_still e ≡ true → Fits shape e (view number) content → HaveSameStates view (with_page view number content)
 still_states shape view number e content still fits = same_page_states view number content (still_shows shape e (view number) content still fits)
 
--- so does one more transaction inventory page, on which every number is active
+-- So does one more transaction inventory page, on which every number is active.
 pub tip_states : (shape : Shape) (view : View) (number page : ℕ) (content : Page) → Fits shape (edit.AddTip page) (view number) content → ((place : ℕ) → unwrap_or (state_in (view page) place) Active ≡ Active)
     → HaveSameStates view (with_page view number content)
 tip_states shape view number page content fits active = added_tip_states view number page content (adds_tip shape page (view number) content fits) active

@@ -12,7 +12,8 @@ use Rattle.fbc_levels.specs.declared.levels.Level.TheVariants.{Ex}
 use Rattle.fbc_world.specs.declared.drafts.Draft.{Draft}
 use Rattle.fbc_world.specs.declared.events.Act.{Act}
 use Rattle.fbc_world.specs.History.{History, happens}
-use Rattle.fbc_world.specs.Holdings.{is_draft_of, page_resource}
+use Rattle.fbc_world.specs.Holdings.{is_draft_of}
+use Rattle.fbc_levels.specs.Resources.{page_resource}
 use Rattle.fbc_world.specs.World.{World, newest_of, with_edit, world_of}
 use Rattle.fbc_legal.specs.Coherent.{IsDraftHeld}
 use Rattle.fbc_legal.specs.Guards.{MayBegin}
@@ -42,7 +43,7 @@ module _ (at : Scene) (u : IsUpheld at) (pins : PinsAreHeld at.world) (marked : 
     go None own held = absurd cc
     go (Some d) own held = subst (λ o. w.granted o (page_resource page) ≡ Ex) (same_number d.owner other own) held.1
 
-  -- who begins has every transaction inventory page pinned, so nobody has a mark in a draft
+  -- Who begins has every transaction inventory page pinned, so nobody has a mark in a draft.
   no_mark : (number other : ℕ) → IsMarkedBy w other number → ⊥
   no_mark number other m =
       let mark = mark-of at u true_marks owner number other m in
@@ -58,7 +59,7 @@ module _ (at : Scene) (u : IsUpheld at) (pins : PinsAreHeld at.world) (marked : 
     go true is = refl
     go false is = let by = marked number committed is in absurd (no_mark number by.0 by.1)
 
-  -- a snapshot as it is taken
+  -- A snapshot as it is taken.
   pub taken : (number : ℕ) → is_held (begun (meaning_of (newest_of w)) owner begins).snapshot number ≡ true → (number ≡ begins) ⊎ ((is_committed_in w.kept number ≡ true) × (number < begins))
   taken number = go (begins == number) refl where
     go : (b : Bool) → begins == number ≡ b → (b || is_held (committed_numbers (transactions_up_to (newest_of w) [] (next_of (newest_of w)))) number) ≡ true → (number ≡ begins) ⊎ ((is_committed_in w.kept number ≡ true) × (number < begins))
@@ -88,6 +89,6 @@ module _ (shape : Shape) (file : View) (before : History) (owner : ℕ) (act : A
         held
   ]
 
--- an edit takes no snapshot, and leaves the file
+-- An edit takes no snapshot, and leaves the file.
 pub snapshots-edited : (w : World) (owner page : ℕ) (e : Edit) (content : Page) → w.marked owner ≡ None → SnapshotsAreTrue w → SnapshotsAreTrue (with_edit w owner page e (Some content))
 snapshots-edited w owner page e content unmarked snapshots other t number is held = snapshots other t number (open-edited w owner page e content unmarked other t is) held

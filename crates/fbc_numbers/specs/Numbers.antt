@@ -9,7 +9,8 @@ use Rattle.fbc_kinds.specs.Limits.{tip_numbers}
 use Rattle.fbc_kinds.specs.Machine.{is_held}
 use Rattle.fbc_kinds.specs.View.{View, is_committed_state, next_of, state_in, tip_of}
 use Rattle.fbc_levels.specs.declared.levels.Level.TheVariants.{Ex}
-use Rattle.fbc_world.specs.Holdings.{is_draft_of, page_resource}
+use Rattle.fbc_world.specs.Holdings.{is_draft_of}
+use Rattle.fbc_levels.specs.Resources.{page_resource}
 use Rattle.fbc_world.specs.World.{World, newest_of}
 use Rattle.fbc_legal.specs.Scene.{Scene}
 use Rattle.fbc_closed_cuts.specs.Cut.{Cut, IsClosedCut, view}

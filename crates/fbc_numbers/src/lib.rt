@@ -1,4 +1,28 @@
 //! Numbers of transactions, their marks and their snapshots: what every legal history keeps of them.
+//!
+//! - **Proved** (`legal_histories_keep_numbers`, by `IsNumbered` of `specs/Numbers`; `events_keep_numbers`
+//!   for a step):
+//!   - What is committed in a view is so in that of each wider cut (`commits_grow_with_cuts`).
+//!   - An open transaction is its living owner's; its number was given out, or is the next and its owner has
+//!     the header pinned in EX (`open_transactions_stand`). Different owners have different numbers
+//!     (`numbers_of_open_transactions_differ`).
+//!   - An open transaction without a mark is committed in no view (`unmarked_transactions_are_uncommitted`,
+//!     `uncommitted_numbers_are_so_in_each_view`). What is committed in the newest pages and not in the file
+//!     is an open one that its owner has marked (`commits_out_of_the_file_are_marked`); the draft with that
+//!     mark is its owner's only one, and the file names its page for the number (`marks_are_true`).
+//!   - A snapshot holds its own number, and smaller ones that are committed in the file
+//!     (`snapshots_are_true`) and so in every view (`held_numbers_are_committed_in_each_view`).
+//!   - A mark leaves each view sound that sees it (`dead_marks_keep_views_sound`,
+//!     `commit_marks_keep_views_sound`).
+//!   - An owner has the number of its open transaction in EX; no view shows it as dead, the file does not
+//!     show it as committed, its snapshot holds it (`legal_histories_keep_opens_apart`, by `specs/Opens`).
+//!   - Where a transaction begins, all that is committed is so in the file (`begins_follow_all_commits`), its
+//!     number is above every open one (`begun_numbers_are_greatest`), and no view has given it out
+//!     (`begun_numbers_are_new`).
+//! - **Supposed**: the history is legal, and its views were sound at each of its moments; by `fbc_soundness`
+//!   that is so of every legal history over a sound file.
+//! - The functions do nothing when they are run; the crates above cite mostly the lemmas behind them, the
+//!   files of `proofs/` that are `pub`.
 #![tactic(auto)]
 
 mod begins;

@@ -11,7 +11,7 @@ ghost use Rattle.fbc_kinds.specs.declared.shapes.Shape.{Shape};
 ghost use Rattle.fbc_legal.specs.Guards.{GuardOfEdit};
 ghost use Rattle.fbc_legal.specs.Scene.{Scene, scene_of};
 ghost use Rattle.fbc_legal.specs.Stamps.{Stamps};
-ghost use Rattle.fbc_rows.specs.Forms.{AllowsMark};
+ghost use Rattle.fbc_version_edits.specs.Forms.{AllowsMark};
 
 /// Each view that comes to hold the page with the mark allows the mark: the number was begun, and is
 /// not committed there.
@@ -23,7 +23,8 @@ pub fn views_allow_dead_marks()
 /// A mark as dead leaves each view that sees it sound: no number is taken back that a view has as
 /// committed.
 pub fn dead_marks_keep_views_sound()
-    ensures { (shape : Shape) (file : View) (past : History) (number : ℕ) → IsNumbered (scene_of shape file past) → KeepsViewsSound shape file past (Mark number Dead) }
+    ensures { (shape : Shape) (file : View) (past : History) (number : ℕ)
+        → IsNumbered (scene_of shape file past) → KeepsViewsSound shape file past (Mark number Dead) }
 {}
 
 /// So does a mark as committed.

@@ -16,8 +16,8 @@ use Rattle.fbc_kinds.proofs.EditLimits.{slice_get-set_other, slice_get-set_same}
 use Rattle.fbc_kinds.proofs.Heads.{both_pass}
 use Rattle.fbc_kinds.proofs.Tests.{differ_from_test, same_from_test}
 use Rattle.fbc_origins.specs.Owed.{leaves_cells}
-use Rattle.fbc_views.specs.Allowed.{Fits}
-use Rattle.fbc_views.proofs.Fitted.{adds_inventory, adds_pointer, adds_tip, frees_mark, given_some, names_slot, raises_next, takes_mark, unnames_slot}
+use Rattle.fbc_page_edits.specs.Allowed.{Fits}
+use Rattle.fbc_page_edits.proofs.Fitted.{adds_inventory, adds_pointer, adds_tip, frees_mark, given_some, names_slot, raises_next, takes_mark, unnames_slot}
 
 pub cells-left : (shape : Shape) (e : Edit) (before : Option Page) (content : Page) → leaves_cells e ≡ true → Fits shape e before content → (cell : ℕ) → cell_in (Some content) cell ≡ cell_in before cell
 cells-left shape (edit.SetNext next) before content left fits cell = let r = raises_next shape next before content fits in rw (r.changes.stands, ← r.changes.made) refl
@@ -35,7 +35,7 @@ cells-left shape (edit.PutCell place new) before content left fits cell = cc
 cells-left shape (edit.ClearCell place) before content left fits cell = cc
 cells-left shape (edit.Format k page relation sequence) before content left fits cell = cc
 
--- the cells of a data page with one of them set
+-- The cells of a data page with one of them set.
 set-cells : (d : Data) (cell : ℕ) (new : Cell) (content : Page) → cell < length d.cells → kind.Data (record d { cells = slice_set d.cells cell new }) ≡ content → (place : ℕ)
     → cell_in (Some content) place ≡ (if place == cell then Some new else slice_get d.cells place)
 set-cells d cell new content inside made place = ap (λ (p : Page). cell_in (Some p) place) (sym made) ∙ go (place == cell) refl where

@@ -4,7 +4,8 @@ use Rattle.fbc_kinds.specs.declared.edits.Edit.TheVariants as edit
 use Rattle.fbc_kinds.specs.declared.pages.Cell.{Cell}
 use Rattle.fbc_kinds.specs.declared.pages.Page.{Page}
 use Rattle.fbc_kinds.specs.View.{cell_in}
-use Rattle.fbc_rows.specs.Forms.{NameTheSame, NamesNone}
+use Rattle.fbc_version_edits.specs.Forms.{NamesNone}
+use Rattle.fbc_page_edits.specs.Facing.{NameTheSame}
 use Rattle.fbc_legal.proofs.Exclusion.{same_number}
 use Rattle.std.proofs.lemmas.Option.{same_Some}
 use Rattle.fbc_legal.specs.Stamps.{Stamps, born_after, meant_after, meant_by, stamped, takes_link}
@@ -35,7 +36,7 @@ module _ (kept : Option Page) (keeps : Stamps) (before : Option Page) (s : Stamp
       let r = held cell old new was (sym (same cell) ∙ is) (one ∙ births cell) in
       (r.0, r.1 ∙ sym (links cell))
 
-  -- a cell is cleared
+  -- A cell is cleared.
   pub cleared : (cell : ℕ) (fresh : Cell) (content : Option Page) → ((place : ℕ) → cell_in content place ≡ (if place == cell then Some fresh else cell_in before place)) → KeepsCells kept keeps content (stamped stamp born before (edit.ClearCell cell) s)
   cleared cell fresh content made place old new was is one = go (place == cell) (sym (made place) ∙ is) one where
     go : (b : Bool) → (if b then Some fresh else cell_in before place) ≡ Some new → keeps.born place ≡ (if b then stamp else s.born place)
@@ -43,7 +44,7 @@ module _ (kept : Option Page) (keeps : Stamps) (before : Option Page) (s : Stamp
     go true found same = none_new _ place same
     go false found same = held place old new was found same
 
-  -- one cell has a new content
+  -- One cell has a new content.
   module _ (cell : ℕ) (fresh : Cell) (cuts : (old : Cell) → cell_in before cell ≡ Some old → takes_link old fresh ≡ true → IsSameVersion old fresh) where
     here : (old : Cell) → cell_in kept cell ≡ Some old → (found : Option Cell) → cell_in before cell ≡ found → keeps.born cell ≡ born_after stamp (s.born cell) fresh found
         → IsSameVersion old fresh × (keeps.meant cell ≡ meant_after born (s.meant cell) fresh found)

@@ -6,8 +6,8 @@ use Rattle.fbc_kinds.specs.declared.pages.State.TheVariants.{Dead}
 use Rattle.fbc_kinds.specs.Chain.{state_of}
 use Rattle.fbc_kinds.specs.Sound.{IsSound}
 use Rattle.fbc_kinds.specs.View.{View, cell_at, is_back, is_committed_state}
-use Rattle.fbc_rows.specs.Forms.{AllowsClear}
-use Rattle.fbc_views.specs.Facing.{IsLinked}
+use Rattle.fbc_version_edits.specs.Forms.{AllowsClear}
+use Rattle.fbc_page_edits.specs.Facing.{IsLinked}
 use Rattle.fbc_legal.specs.Facts.{HasTaken}
 use Rattle.fbc_legal.specs.Guards.{GuardOfEdit}
 use Rattle.fbc_legal.specs.Leans.{ClearLeans, MayClear}
@@ -16,11 +16,12 @@ use Rattle.fbc_legal.specs.Scene.{Scene, born_at, newest_at}
 use Rattle.fbc_legal.specs.Stamps.{Stamps}
 use Rattle.fbc_closed_cuts.specs.Owed.{SeesEdit}
 use Rattle.fbc_numbers.specs.Numbers.{is_committed_in}
-use Rattle.fbc_rows.proofs.Flags.{back_of_top, unlinked}
+use Rattle.fbc_version_edits.proofs.Flags.{back_of_top, unlinked}
 use Rattle.fbc_origins.specs.Owed.{IsInOrder}
 use Rattle.std.specs.Prelude.{Contains}
 use Rattle.fbc_origins.proofs.Meant.{in-seen}
-use Rattle.fbc_origins.proofs.Seeing.{committed-newest, committed-seen, lean-seen, seen-sound, stands-seen}
+use Rattle.fbc_closed_cuts.proofs.LeansSeen.{lean-seen}
+use Rattle.fbc_origins.proofs.Seeing.{committed-newest, committed-seen, seen-sound, stands-seen}
 
 -- What stands in a cell that no version names.
 pub record IsUnnamed (seen : View) (page cell : ℕ) : Type 0 where
@@ -37,7 +38,7 @@ module _ (at : Scene) (order : IsInOrder at) (owner page cell : ℕ) (g : GuardO
   dead_fails number dead true is =
       absurd (let wrong : is_committed_state Dead ≡ true = ap is_committed_state (sym dead) ∙ committed-newest at owner page seen stamps sees order.numbered.grow number is in cc)
 
-  -- a back value that the owner's edit made unreached
+  -- A back value that the owner's edit made unreached.
   unreached : (old : Cell) → cell_at (newest_at at) page cell ≡ Some old → is_back old.flag ≡ true → ¬ IsLinked seen page cell
   unreached old there value =
       let leans : ClearLeans at owner page cell = subst (λ (o : Option Cell). MayClear at owner page cell o) there g.leans value in

@@ -14,7 +14,7 @@ use Rattle.fbc_legal.proofs.Induction.{IsCoherent-legal}
 use Rattle.fbc_origins.specs.Origins.{EditsStay}
 use Rattle.fbc_origins.proofs.StampLineage.{stamp-lineage}
 
--- the later stamps have the edits of the earlier ones
+-- The later stamps have the edits of the earlier ones.
 abbrev HasEdits : Option Page → Stamps → Option Page → Stamps → Type 0
 HasEdits kept old newest new = (edit : ℕ) → Contains old.edits edit → Contains new.edits edit
 

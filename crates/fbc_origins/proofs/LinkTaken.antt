@@ -1,6 +1,7 @@
 -- A put that takes a link, and leaves the version, is a cut: no other form of it has that effect.
-use Rattle.std.proofs.Common.{◌≡◌, ◌∙◌, ◌==◌, ◌<◌, ℕ, Bool, true, false, not, ◌&&◌, inr, Some, refl, sym, ap, arith}
+use Rattle.std.proofs.Common.{◌≡◌, ◌∙◌, ◌==◌, ◌<◌, ℕ, true, false, not, ◌&&◌, inr, Some, refl, sym, ap, arith}
 use Rattle.std.proofs.lemmas.Bool.Decides.{nat_tests}
+use Rattle.std.proofs.lemmas.Bool.{not-true}
 use Rattle.std.proofs.lemmas.Option.{same_Some}
 use Rattle.fbc_kinds.specs.declared.edits.Edit.TheVariants.{PutCell}
 use Rattle.fbc_kinds.specs.declared.pages.Cell.{Cell}
@@ -32,19 +33,15 @@ pub record IsTaken (old new : Cell) : Type 0 where
   pub linked : (old.back_page == 0) ≡ false
   pub alone : new.back_page ≡ 0
 
-negated : (b : Bool) → not b ≡ true → b ≡ false
-negated true is = absurd cc
-negated false is = refl
-
 pub taken : (old new : Cell) → takes_link old new ≡ true → IsTaken old new
 taken old new is =
     let outer = both_of (is_same_flag old.flag new.flag && (old.number == new.number) && not (old.back_page == 0)) (new.back_page == 0) is in
     let middle = both_of (is_same_flag old.flag new.flag && (old.number == new.number)) (not (old.back_page == 0)) outer.0 in
     let inner = both_of (is_same_flag old.flag new.flag) (old.number == new.number) middle.0 in
-    record { flag = same_flag old.flag new.flag inner.0; number = same_number old.number new.number inner.1; linked = negated (old.back_page == 0) middle.1; alone = same_number new.back_page 0 outer.1 }
+    record { flag = same_flag old.flag new.flag inner.0; number = same_number old.number new.number inner.1; linked = not-true (old.back_page == 0) middle.1; alone = same_number new.back_page 0 outer.1 }
 
 module _ (at : Scene) (u : IsUpheld at) (owner page cell : ℕ) (content : Cell) (g : GuardOfEdit at owner page (PutCell cell content)) where
-  -- what a top of the page names has a smaller number
+  -- What a top of the page names has a smaller number.
   pub below-smaller : (old back : Cell) → cell_at (newest_at at) page cell ≡ Some old → is_top old.flag ≡ true → (old.back_page == 0) ≡ false → cell_at (newest_at at) old.back_page old.back_cell ≡ Some back
       → back.number < old.number
   below-smaller old back stands top linked below =

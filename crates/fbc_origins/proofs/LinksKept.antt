@@ -10,9 +10,8 @@ use Rattle.fbc_kinds.specs.DataSpelling.{empty_cell}
 use Rattle.fbc_kinds.specs.Reach.{ReachesCell}
 use Rattle.fbc_kinds.specs.View.{View, cell_at, cell_in, is_back, is_top}
 use Rattle.fbc_kinds.proofs.Tests.{same_from_test}
-use Rattle.fbc_rows.specs.Forms.{NameTheSame}
-use Rattle.fbc_views.specs.Allowed.{Fits}
-use Rattle.fbc_views.specs.Facing.{IsLinked}
+use Rattle.fbc_page_edits.specs.Facing.{NameTheSame, IsLinked}
+use Rattle.fbc_page_edits.specs.Allowed.{Fits}
 use Rattle.fbc_world.specs.declared.events.Act.{Act}
 use Rattle.fbc_world.specs.declared.events.Act.TheVariants.{Local}
 use Rattle.fbc_world.specs.declared.events.LocalEvent.TheVariants as local
@@ -25,7 +24,7 @@ use Rattle.fbc_legal.specs.Scene.{Scene, newest_at, scene_of}
 use Rattle.fbc_legal.specs.Stamps.{Stamps, born_after, born_in_newest, newest_stamps, stamp_after, stamped, stamps_step, takes_link}
 use Rattle.fbc_legal.specs.Traces.{IsMovedBy}
 use Rattle.fbc_closed_cuts.specs.Views.{view_stamps}
-use Rattle.fbc_rows.proofs.Flags.{reached_how, top_of_back}
+use Rattle.fbc_version_edits.proofs.Flags.{reached_how, top_of_back}
 use Rattle.fbc_origins.specs.Owed.{IsInOrder, leaves_cells}
 use Rattle.fbc_origins.proofs.CellsAfter.{cells-cleared, cells-left, cells-put}
 use Rattle.fbc_origins.proofs.LinksNext.{plain_born}
@@ -54,7 +53,7 @@ module _ (at : Scene) (order : IsInOrder at) (mover page cell stamp : ℕ) (was 
   past : stamp ≤ length at.past
   past = moved-past at.shape at.file mover page cell stamp at.past was
 
-  -- the newest pages do not reach it
+  -- The newest pages do not reach it.
   newest_unreached : news.born cell ≡ stamp → (version : Cell) → cell_at (newest_at at) page cell ≡ Some version → (relation : ℕ) → ¬ ReachesCell (newest_at at) relation page cell
   newest_unreached born version there relation reached = go (reached_how (newest-sound at order.upheld) relation page cell reached version there) where
     in_view : (view_stamps at.world at.stamps (λ p. is_some (at.world.draft p)) page).born cell ≡ stamp
@@ -117,7 +116,7 @@ module _ (shape : Shape) (file : View) (before : History) (order : IsInOrder (sc
   abbrev scene : Scene
   scene = scene_of shape file before
 
-  -- an edit leaves the stamps of what is kept
+  -- An edit leaves the stamps of what is kept.
   edit_leaves : (stamp owner number page : ℕ) (e : Edit) (landed : Bool) (act : Act) → act ≡ Local (local.Edit number e) → (stamps_step shape scene.world stamp owner act landed scene.stamps).kept page ≡ scene.stamps.kept page
   edit_leaves stamp owner number page e landed act same =
       subst (λ a. (stamps_step shape scene.world stamp owner a landed scene.stamps).kept page ≡ scene.stamps.kept page) (sym same) (go (is_some (page_after shape scene.world owner number e)) _) where

@@ -10,21 +10,21 @@ use Rattle.fbc_kinds.specs.Reach.{DataRole, LinksTo, NamesBack, ReachesPage}
 use Rattle.fbc_kinds.specs.Sound.{IsSound}
 use Rattle.fbc_kinds.specs.View.{View}
 use Rattle.fbc_kinds.proofs.Tests.{differ_from_test, same_from_test}
-use Rattle.fbc_views.specs.Alike.{HasNoMoreLinks}
-use Rattle.fbc_views.specs.Allowed.{Fits}
-use Rattle.fbc_views.specs.Edited.{with_page}
-use Rattle.fbc_views.specs.Facing.{IsLinked}
-use Rattle.fbc_views.proofs.OffReach.{off_reach_alike}
-use Rattle.fbc_views.proofs.SameVersions.{reached_holds}
+use Rattle.fbc_page_edits.specs.Alike.{HasNoMoreLinks}
+use Rattle.fbc_page_edits.specs.Allowed.{Fits}
+use Rattle.fbc_page_edits.specs.Edited.{with_page}
+use Rattle.fbc_page_edits.specs.Facing.{IsLinked}
+use Rattle.fbc_page_edits.proofs.OffReach.{off_reach_alike}
+use Rattle.fbc_page_edits.proofs.SameVersions.{reached_holds}
 use Rattle.fbc_world.specs.World.{page_after}
 use Rattle.fbc_legal.specs.Guards.{GuardOfEdit}
 use Rattle.fbc_legal.specs.Scene.{Scene}
 use Rattle.fbc_legal.specs.Stamps.{Stamps, newest_stamps, stamped}
-use Rattle.fbc_rows.specs.Differences.{IsPlace}
-use Rattle.fbc_rows.specs.Puts.{IsClearIn, IsPutIn}
-use Rattle.fbc_rows.proofs.NoLinkForms.{no_link_clear}
-use Rattle.fbc_rows.proofs.NoNewLinks.{names_none, no_more_links}
-use Rattle.fbc_rows.proofs.OneCell.{IsOneCell, is_new, one_cell_cleared}
+use Rattle.fbc_version_edits.specs.Differences.{IsPlace}
+use Rattle.fbc_version_edits.specs.Puts.{IsClearIn, IsPutIn}
+use Rattle.fbc_version_edits.proofs.NoLinkForms.{no_link_clear}
+use Rattle.fbc_version_edits.proofs.NoNewLinks.{names_none, no_more_links}
+use Rattle.fbc_version_edits.proofs.OneCell.{IsOneCell, is_new, one_cell_cleared}
 use Rattle.fbc_origins.specs.Owed.{IsInOrder, LinksStay, leaves_cells}
 use Rattle.fbc_origins.proofs.ClearsAllowed.{IsUnnamed, clears-unnamed}
 use Rattle.fbc_origins.proofs.Meant.{AreMeant}
@@ -35,7 +35,7 @@ use Rattle.fbc_origins.proofs.PutsAllowed.{page-seen}
 use Rattle.fbc_origins.proofs.Seeing.{seen-shape, seen-sound}
 use Rattle.fbc_origins.proofs.ViewsNext.{IsEditedView}
 
--- an edit of what is no cell leaves the stamps of all cells
+-- An edit of what is no cell leaves the stamps of all cells.
 pub plain_born : (stamp : ℕ) (born : ℕ → ℕ → ℕ) (old : Option Page) (e : Edit) (s : Stamps) → leaves_cells e ≡ true → (c : ℕ) → (stamped stamp born old e s).born c ≡ s.born c
 plain_born stamp born old (edit.PutCell cell content) s leaves c = cc
 plain_born stamp born old (edit.ClearCell cell) s leaves c = cc
@@ -48,7 +48,7 @@ plain_meant stamp born old (edit.ClearCell cell) s leaves c = cc
 plain_meant stamp born old (edit.Format k page relation sequence) s leaves c = cc
 plain_meant stamp born old _ s leaves c = refl
 
--- the pages of a link are reached
+-- The pages of a link are reached.
 from_reached : (seen : View) → IsSound seen → (relation page cell back_page back_cell : ℕ) (version : Cell) → LinksTo seen relation page cell version back_page back_cell → ReachesPage seen page
 from_reached seen sound relation page cell back_page back_cell version link = let holder = reached_holds seen sound relation page cell link.reached in (DataRole relation holder.sequence, holder.is.named)
 
@@ -62,7 +62,7 @@ module _ (at : Scene) (order : IsInOrder at) (owner page : ℕ) (content : Page)
   abbrev news : Stamps
   news = newest_stamps at.world at.stamps page
 
-  -- what is no cell is edited
+  -- What is no cell is edited.
   plain-meant : (e : Edit) → IsEditedView at owner page e content seen stamps after later → leaves_cells e ≡ true → HasNoMoreLinks seen next → AreMeant next later
   plain-meant e v leaves links relation from_page from_cell back_page back_cell version link =
       meant_same from_page from_cell (from_page == page) refl
@@ -79,7 +79,7 @@ module _ (at : Scene) (order : IsInOrder at) (owner page : ℕ) (content : Page)
       meant_same q c true same = subst (λ n. (later n).meant c ≡ (stamps n).meant c) (sym (same_from_test q page same))
           (ap (λ (s : Stamps). s.meant c) v.now ∙ plain_meant _ _ _ e news leaves c ∙ ap (λ (s : Stamps). s.meant c) (sym v.sees.edited_page.stamps))
 
-  -- a page that is not reached is made
+  -- A page that is not reached is made.
   format-meant : (e : Edit) → IsEditedView at owner page e content seen stamps after later → ¬ ReachesPage seen page → AreMeant next later
   format-meant e v off relation from_page from_cell back_page back_cell version link =
       ap (λ (s : Stamps). s.meant from_cell) (v.others from_page (not_it from_page (from_reached seen sound relation from_page from_cell back_page back_cell version there)))
@@ -95,7 +95,7 @@ module _ (at : Scene) (order : IsInOrder at) (owner page : ℕ) (content : Page)
       not_it : (q : ℕ) → ReachesPage seen q → ¬ (q ≡ page)
       not_it q reached same = off (subst (ReachesPage seen) same reached)
 
-  -- a cell is cleared that none names
+  -- A cell is cleared that none names.
   clear-meant : (cell : ℕ) → IsEditedView at owner page (edit.ClearCell cell) content seen stamps after later → (clear : IsClearIn at.shape seen page cell content) → IsUnnamed seen page cell → AreMeant next later
   clear-meant cell v clear unnamed relation from_page from_cell back_page back_cell version link =
       (elsewhere from_page from_cell from_apart).1 ∙ was relation from_page from_cell back_page back_cell version there ∙ sym (elsewhere back_page back_cell to_apart).0

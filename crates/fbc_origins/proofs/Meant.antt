@@ -11,14 +11,14 @@ use Rattle.fbc_origins.specs.Origins.{EveryView, LinksAreMeant}
 use Rattle.fbc_origins.proofs.PutPages.{every_draft, newest-closed, newest-view}
 use Rattle.fbc_origins.proofs.Seeing.{one-stamps, one-view}
 
--- the stamps of the view of all drafts are the newest ones
+-- The stamps of the view of all drafts are the newest ones.
 pub newest-stamps-view : (at : Scene) (q : ℕ) → view_stamps at.world at.stamps (every_draft at.world) q ≡ newest_stamps at.world at.stamps q
 newest-stamps-view at q = pick (every_draft at.world q) (at.stamps.draft q) (at.stamps.kept q) where
   pick : (c : Bool) (x y : Stamps) → (if c then (if c then x else y) else y) ≡ (if c then x else y)
   pick true x y = refl
   pick false x y = refl
 
--- what holds of every view holds of the newest pages, and of a view that sees an edit
+-- What holds of every view holds of the newest pages, and of a view that sees an edit.
 pub in-newest : (at : Scene) (Holds : View → (ℕ → Stamps) → Type 0) → EveryView at Holds → Holds (newest_at at) (view_stamps at.world at.stamps (every_draft at.world))
 in-newest at Holds each = subst (λ (v : View). Holds v (view_stamps at.world at.stamps (every_draft at.world))) (newest-view at.world) (each (every_draft at.world) (newest-closed at.world))
 

@@ -4,7 +4,7 @@ use Rattle.fbc_kinds.specs.declared.edits.Edit.TheVariants.{PutCell}
 use Rattle.fbc_kinds.specs.declared.pages.Cell.{Cell}
 use Rattle.fbc_kinds.specs.declared.shapes.Shape.{Shape}
 use Rattle.fbc_kinds.specs.View.{View, is_back}
-use Rattle.fbc_views.specs.Facing.{IsLinked}
+use Rattle.fbc_page_edits.specs.Facing.{IsLinked}
 use Rattle.fbc_world.specs.History.{History, Moment}
 use Rattle.fbc_legal.specs.Scene.{newest_after}
 use Rattle.fbc_legal.specs.Stamps.{stamp_after}
@@ -31,7 +31,7 @@ module _ (shape : Shape) (file : View) (owner page cell stamp : ℕ) where
   moved-at _ (moved before moment content is back number) = inl (record { content = content; is = is; back = back; number = number })
   moved-at _ (still before moment was unreached) = inr (record { was = was; unreached = unreached })
 
-  -- the edit that moved it is one of the past
+  -- The edit that moved it is one of the past.
   pub moved-past : (past : History) → IsMovedBy shape file owner page cell stamp past → stamp ≤ length past
   moved-past _ (moved before moment content is back number) = grind (arith, number)
   moved-past _ (still before moment was unreached) = grind (arith, moved-past before was)

@@ -8,8 +8,8 @@ use Rattle.fbc_kinds.specs.declared.pages.Page.{Page}
 use Rattle.fbc_kinds.specs.declared.shapes.Shape.{Shape}
 use Rattle.fbc_kinds.specs.View.{View, cell_at, cell_in, is_back}
 use Rattle.fbc_kinds.proofs.Tests.{differ_from_test, same_from_test, test_of_same}
-use Rattle.fbc_views.specs.Allowed.{Fits}
-use Rattle.fbc_views.specs.Edited.{with_page}
+use Rattle.fbc_page_edits.specs.Allowed.{Fits}
+use Rattle.fbc_page_edits.specs.Edited.{with_page}
 use Rattle.fbc_world.specs.declared.events.Act.{Act}
 use Rattle.fbc_world.specs.declared.events.Act.TheVariants.{Local}
 use Rattle.fbc_world.specs.declared.events.LocalEvent.TheVariants as local
@@ -33,13 +33,13 @@ use Rattle.fbc_origins.proofs.ViewsNext.{IsEditedView, views-acted, views-edited
 abbrev pub HoldsBackValue : ℕ → ℕ → ℕ → View → (ℕ → Stamps) → Type 0
 HoldsBackValue page cell stamp seen stamps = (stamps page).born cell ≡ stamp → (version : Cell) → cell_at seen page cell ≡ Some version → is_back version.flag ≡ true
 
--- a stamp of before is no new one
+-- A stamp of before is no new one.
 module _ (at : Scene) (order : IsInOrder at) (owner edited : ℕ) (e : Edit) (content : Page) (g : GuardOfEdit at owner edited e) (is : page_after at.shape at.world owner edited e ≡ Some content)
     (seen : View) (stamps : ℕ → Stamps) (after : View) (later : ℕ → Stamps) (v : IsEditedView at owner edited e content seen stamps after later) (page cell stamp : ℕ) where
   fits : Fits at.shape e (newest_at at edited) content
   fits = newest-fits at order.upheld.coherent owner edited e content g is
 
-  -- what stands in a cell of an old stamp stood there before, as a version of the same kind
+  -- What stands in a cell of an old stamp stood there before, as a version of the same kind.
   pub older : stamp ≤ length at.past → (later page).born cell ≡ stamp → (version : Cell) → cell_at (with_page seen edited content) page cell ≡ Some version → IsOlder (seen page) (stamps page) cell stamp version
   older past born version stands = go (page == edited) refl stands where
     go : (b : Bool) → (page == edited) ≡ b → cell_in (if b then Some content else seen page) cell ≡ Some version → IsOlder (seen page) (stamps page) cell stamp version
@@ -65,7 +65,7 @@ module _ (at : Scene) (order : IsInOrder at) (owner edited : ℕ) (e : Edit) (co
         let found : IsOlder (seen page) (stamps page) cell stamp version = older past born version stands in
         ap is_back (sym found.flag) ∙ was found.born found.old found.stands
 
-  -- where it is moved now, it is what was put
+  -- Where it is moved now, it is what was put.
   pub back-put : (moved : Cell) → e ≡ PutCell cell moved → page ≡ edited → is_back moved.flag ≡ true → HoldsBackValue page cell stamp after later
   back-put moved same one back = subst (λ (w : View). HoldsBackValue page cell stamp w later) v.pages put where
     fits_put : Fits at.shape (PutCell cell moved) (newest_at at edited) content
@@ -83,7 +83,7 @@ module _ (shape : Shape) (file : View) (before : History) (order : IsInOrder (sc
   abbrev at : Scene
   at = scene_of shape file before
 
-  -- no view of before has the stamp of the next event
+  -- No view of before has the stamp of the next event.
   view_past : (stamp page cell : ℕ) → stamp ≡ stamp_after before → EveryView at (HoldsBackValue page cell stamp)
   view_past stamp page cell number cut closed born version stands = absurd (grind (arith, number, born, below cut (cut page))) where
     chosen : (b : Bool) → (newest_stamps at.world at.stamps page).born cell ≤ length before

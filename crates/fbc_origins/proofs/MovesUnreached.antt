@@ -9,12 +9,12 @@ use Rattle.fbc_kinds.specs.declared.shapes.Shape.{Shape}
 use Rattle.fbc_kinds.specs.DataSpelling.{empty_cell}
 use Rattle.fbc_kinds.specs.Reach.{DataRole, LinksTo, Reaches, ReachesCell}
 use Rattle.fbc_kinds.specs.View.{View, cell_in, is_back, is_top}
-use Rattle.fbc_kinds.proofs.Tests.{differ_from_test, same_from_test, test_of_same}
-use Rattle.fbc_rows.specs.Forms.{IsBackout, IsMove, IsOver, IsOwnAgain}
-use Rattle.fbc_views.specs.Allowed.{Fits}
-use Rattle.fbc_views.specs.Edited.{with_page}
-use Rattle.fbc_views.specs.Facing.{IsLinked}
-use Rattle.fbc_views.proofs.OffReach.{off_reach_alike}
+use Rattle.fbc_kinds.proofs.Tests.{differ_from_test, same_from_test, test_of_same, test_of_different}
+use Rattle.fbc_version_edits.specs.Forms.{IsBackout, IsMove, IsOver, IsOwnAgain}
+use Rattle.fbc_page_edits.specs.Allowed.{Fits}
+use Rattle.fbc_page_edits.specs.Edited.{with_page}
+use Rattle.fbc_page_edits.specs.Facing.{IsLinked}
+use Rattle.fbc_page_edits.proofs.OffReach.{off_reach_alike}
 use Rattle.fbc_world.specs.declared.events.Act.{Act}
 use Rattle.fbc_world.specs.declared.events.Act.TheVariants.{Local}
 use Rattle.fbc_world.specs.declared.events.LocalEvent.TheVariants as local
@@ -27,14 +27,14 @@ use Rattle.fbc_legal.specs.Rows.{IsNewVersion, IsPut, without_link}
 use Rattle.fbc_legal.specs.Scene.{Scene, newest_after, newest_at, scene_of}
 use Rattle.fbc_legal.specs.Stamps.{Stamps, born_after, born_in_newest, newest_stamps, stamp_after, stamped, takes_link}
 use Rattle.fbc_closed_cuts.specs.Views.{is_edit}
-use Rattle.fbc_rows.specs.Differences.{IsPlace}
-use Rattle.fbc_rows.specs.Puts.{IsClearIn, IsPutIn}
-use Rattle.fbc_rows.proofs.Flags.{top_of_back}
-use Rattle.fbc_rows.proofs.NoLinkForms.{move_unlinked, no_link_clear, no_link_cut, no_link_first, no_link_move, no_link_own}
-use Rattle.fbc_rows.proofs.NoNewLinks.{names_none, no_more_links, other_links, own_links}
-use Rattle.fbc_rows.proofs.OneCell.{IsOneCell, here_or_not, one_cell_cleared, one_cell_put, reached_after}
-use Rattle.fbc_rows.proofs.Over.{FromOver, from_over, kept, made, own_relation, taken_along}
-use Rattle.fbc_rows.proofs.TakenBack.{FromBelow, from_below, kept as was_kept, raised}
+use Rattle.fbc_version_edits.specs.Differences.{IsPlace}
+use Rattle.fbc_version_edits.specs.Puts.{IsClearIn, IsPutIn}
+use Rattle.fbc_version_edits.proofs.Flags.{top_of_back}
+use Rattle.fbc_version_edits.proofs.NoLinkForms.{move_unlinked, no_link_clear, no_link_cut, no_link_first, no_link_move, no_link_own}
+use Rattle.fbc_version_edits.proofs.NoNewLinks.{names_none, no_more_links, other_links, own_links}
+use Rattle.fbc_version_edits.proofs.OneCell.{IsOneCell, here_or_not, one_cell_cleared, one_cell_put, reached_after}
+use Rattle.fbc_version_edits.proofs.Over.{FromOver, from_over, kept, made, own_relation, taken_along}
+use Rattle.fbc_version_edits.proofs.TakenBack.{FromBelow, from_below, kept as was_kept, raised}
 use Rattle.fbc_origins.specs.Origins.{EveryView, MovesAreUnreached}
 use Rattle.fbc_origins.specs.Owed.{IsInOrder, LinksStay, MakeNoLinks}
 use Rattle.fbc_origins.proofs.ClearsAllowed.{IsUnnamed, clears-unnamed}
@@ -44,23 +44,23 @@ use Rattle.fbc_origins.proofs.MovedBefore.{IsMoveNow, IsStillMoved, moved-at, mo
 use Rattle.fbc_origins.proofs.NewestFits.{newest-fits}
 use Rattle.fbc_origins.proofs.NewLinks.{moved_unreached}
 use Rattle.fbc_origins.proofs.PutPages.{IsPutPage, newest-shape, newest-sound, put-page, put-reached}
-use Rattle.fbc_origins.proofs.PutsAllowed.{allows-backout, allows-cut, allows-first, allows-move, allows-over, allows-own, no_header, test_of_differ}
+use Rattle.fbc_origins.proofs.PutsAllowed.{allows-backout, allows-cut, allows-first, allows-move, allows-over, allows-own, no_header}
 use Rattle.fbc_origins.proofs.PutLinks.{here_born, one_flag}
 use Rattle.fbc_origins.proofs.Seeing.{seen-sound}
 use Rattle.fbc_origins.proofs.ViewsNext.{IsEditedView, views-acted, views-edited}
 
--- a cut takes the link
+-- A cut takes the link.
 cut_takes : (old new : Cell) → (old.back_page == 0) ≡ false → new ≡ without_link old → takes_link old new ≡ true
 cut_takes old new some same = rw (same, one_flag old.flag, test_of_same old.number old.number refl, some) refl
 
--- the stamps of the newest pages are past
+-- The stamps of the newest pages are past.
 newest_past : (at : Scene) → IsInOrder at → (page cell : ℕ) → (newest_stamps at.world at.stamps page).born cell ≤ length at.past
 newest_past at order page cell = go (is_some (at.world.draft page)) where
   go : (c : Bool) → (if c then at.stamps.draft page else at.stamps.kept page).born cell ≤ length at.past
   go true = (order.original.past page).1.born cell
   go false = (order.original.past page).0.born cell
 
--- a stamp of before was there before the edit
+-- A stamp of before was there before the edit.
 older-born : (count : ℕ) (born : ℕ → ℕ → ℕ) (old : Option Page) (s : Stamps) (cell stamp : ℕ) → stamp ≤ count → (e : Edit) → (stamped (suc count) born old e s).born cell ≡ stamp → s.born cell ≡ stamp
 older-born count born old s cell stamp past (edit.PutCell place new) is = go (cell == place) is where
   over : (found : Option Cell) → born_after (suc count) (s.born cell) new found ≡ stamp → s.born cell ≡ stamp
@@ -88,7 +88,7 @@ module _ (at : Scene) (order : IsInOrder at) (owner page : ℕ) (e : Edit) (cont
   abbrev newest_next : View
   newest_next = with_page (newest_at at) page content
 
-  -- a cell that is linked afterwards was so before, or is so in the newest pages
+  -- A cell that is linked afterwards was so before, or is so in the newest pages.
   abbrev Found : ℕ → ℕ → Type 0
   Found q c = IsLinked seen q c ⊎ IsLinked newest_next q c
 
@@ -124,7 +124,7 @@ module _ (at : Scene) (order : IsInOrder at) (owner page cell : ℕ) (content : 
   abbrev p : IsPutPage at owner page cell content
   p = put-page at owner page cell content g
 
-  -- in the newest pages the new version leads to the moved one
+  -- In the newest pages the new version leads to the moved one.
   newest_link : (f : IsNewVersion at owner page cell content) → IsLinked put_newest content.back_page content.back_cell
   newest_link f =
       let put_there : IsPutIn at.shape (newest_at at) page cell content made_page = record {
@@ -143,7 +143,7 @@ module _ (at : Scene) (order : IsInOrder at) (owner page cell : ℕ) (content : 
         links = record {
           reached = ReachesCell.top p.data_page.sequence page cell content (reached_after one (DataRole p.data_page.relation p.data_page.sequence) page (put-reached at owner page cell content g order.upheld)) one.is f.top;
           stands = one.is;
-          names = record { some = test_of_differ content.back_page 0 (no_header at order.upheld order.numbered order.original owner page cell content g seen stamps v.sees f); page_is = refl; cell_is = refl };
+          names = record { some = test_of_different content.back_page 0 (no_header at order.upheld order.numbered order.original owner page cell content g seen stamps v.sees f); page_is = refl; cell_is = refl };
         };
       }
 
@@ -194,7 +194,7 @@ module _ (at : Scene) (order : IsInOrder at) (owner page cell : ℕ) (content : 
       linked relation from_page from_cell q c version
       (no_more_links put.sound (one_cell_put put form.stands) (no_link_cut put.sound page cell content form) (λ r bp bc reached names. names_none content bp bc (ap (λ (w : Cell). w.back_page) form.same) names) relation from_page from_cell q c version link)
 
-  -- a back value that is put now is not reached
+  -- A back value that is put now is not reached.
   pub put-unmoved : is_back content.flag ≡ true → (stamp : ℕ) → stamp ≡ stamp_after at.past → (later page).born cell ≡ stamp → ¬ IsLinked put_next page cell
   put-unmoved back stamp number born now = go g.row where
     no_top : is_top content.flag ≡ true → ⊥
@@ -221,7 +221,7 @@ module _ (at : Scene) (order : IsInOrder at) (owner page cell : ℕ) (content : 
               links = other_links put.sound (one_cell_put put form.stands) (no_link_move put.sound page cell content form) now.relation now.from_page now.from_cell page cell now.version differ now.links;
             })
     go (IsPut.cut f) =
-        let takes : takes_link f.old content ≡ true = cut_takes f.old content (test_of_differ f.old.back_page 0 f.linked) f.same in
+        let takes : takes_link f.old content ≡ true = cut_takes f.old content (test_of_different f.old.back_page 0 f.linked) f.same in
         let old_born : (later page).born cell ≡ (newest_stamps at.world at.stamps page).born cell =
         here_born at order owner page cell content made_page g seen stamps after later v put f.old f.stands ∙ rw takes refl in
         absurd (grind (arith, old_born, born, number, newest_past at order page cell))
@@ -237,7 +237,7 @@ module _ (at : Scene) (order : IsInOrder at) (owner edited : ℕ) (content : Pag
   abbrev next_newest : View
   next_newest = with_page (newest_at at) edited content
 
-  -- a cell that is linked afterwards was so before, or is so in the newest pages
+  -- A cell that is linked afterwards was so before, or is so in the newest pages.
   found : (e : Edit) → GuardOfEdit at owner edited e → page_after at.shape at.world owner edited e ≡ Some content → LinksStay at owner edited e content → IsEditedView at owner edited e content seen stamps after later
       → Fits at.shape e (seen edited) content → (relation from_page from_cell q c : ℕ) (version : Cell) → LinksTo next_view relation from_page from_cell version q c → IsLinked seen q c ⊎ IsLinked next_newest q c
   found (edit.PutCell cell version) g is stay v fits relation from_page from_cell q c linked_version link =
@@ -277,7 +277,7 @@ module _ (at : Scene) (order : IsInOrder at) (owner edited : ℕ) (content : Pag
       go (inl before) = was (born_before at order owner edited e content g is stay seen stamps after later v page cell stamp past born) before
       go (inr also) = none also
 
--- the newest pages after an edit
+-- The newest pages after an edit.
 pub newest-edited : (shape : Shape) (file : View) (before : History) (owner page : ℕ) (e : Edit) (landed : Bool) (content : Page) → page_after shape (world_of shape file before) owner page e ≡ Some content
     → newest_after shape file (happens owner (Local (local.Edit page e)) landed ∷ before) ≡ with_page (newest_after shape file before) page content
 newest-edited shape file before owner page e landed content is = fun_ext (λ q. go q (q == page) (page_after shape (world_of shape file before) owner page e) is) where
@@ -290,7 +290,7 @@ module _ (shape : Shape) (file : View) (before : History) (order : IsInOrder (sc
   abbrev scene : Scene
   scene = scene_of shape file before
 
-  -- no view of before has the stamp of the next event
+  -- No view of before has the stamp of the next event.
   view_past : (stamp page cell : ℕ) → stamp ≡ stamp_after before → EveryView scene (IsUnreached page cell stamp)
   view_past stamp page cell number cut closed born = absurd (grind (arith, number, born, below (cut page))) where
     below : (c : Bool) → (if c then newest_stamps scene.world scene.stamps page else scene.stamps.kept page).born cell ≤ length before
@@ -298,7 +298,7 @@ module _ (shape : Shape) (file : View) (before : History) (order : IsInOrder (sc
     below false = (order.original.past page).0.born cell
 
   module _ (owner page cell stamp : ℕ) where
-    -- a put of this moment
+    -- A put of this moment.
     put_now : (actor number : ℕ) (e : Edit) (content : Page) (g : GuardOfEdit scene actor number e) (is : page_after shape scene.world actor number e ≡ Some content) (moved : Cell) → e ≡ edit.PutCell cell moved → number ≡ page → is_back moved.flag ≡ true
         → stamp ≡ stamp_after before → (seen : View) (stamps : ℕ → Stamps) (after : View) (later : ℕ → Stamps) → IsEditedView scene actor number e content seen stamps after later → IsUnreached page cell stamp after later
     put_now actor number (edit.PutCell place new) content g is moved same one back stamp_is seen stamps after later v =

@@ -6,21 +6,22 @@ use Rattle.fbc_kinds.specs.declared.pages.Page.{Page}
 use Rattle.fbc_kinds.specs.Reach.{DataRole, LinksTo, NamesBack, Reaches, ReachesCell}
 use Rattle.fbc_kinds.specs.Sound.{IsSound}
 use Rattle.fbc_kinds.specs.View.{View, cell_at, is_top}
-use Rattle.fbc_rows.specs.Forms.{IsBackout, IsMove, IsOver}
-use Rattle.fbc_views.specs.Edited.{with_page}
-use Rattle.fbc_views.specs.Facing.{IsLinked}
+use Rattle.fbc_kinds.proofs.Tests.{differ_from_test}
+use Rattle.fbc_version_edits.specs.Forms.{IsBackout, IsMove, IsOver}
+use Rattle.fbc_page_edits.specs.Edited.{with_page}
+use Rattle.fbc_page_edits.specs.Facing.{IsLinked}
 use Rattle.fbc_legal.specs.Guards.{GuardOfEdit}
 use Rattle.fbc_legal.specs.Rows.{IsBackout as IsBackoutAt, IsNewVersion, IsPut, as_back}
 use Rattle.fbc_legal.specs.Scene.{Scene, born_at, newest_at}
 use Rattle.fbc_legal.specs.Stamps.{Stamps}
-use Rattle.fbc_rows.specs.Differences.{IsPlace}
-use Rattle.fbc_rows.specs.Puts.{IsPutIn}
-use Rattle.fbc_rows.proofs.Flags.{top_of_back, top_of_empty, unreached}
-use Rattle.fbc_rows.proofs.NoLinkForms.{move_unlinked, no_link_move}
-use Rattle.fbc_rows.proofs.NoNewLinks.{BeginsRow, was_reached}
-use Rattle.fbc_rows.proofs.OneCell.{IsOneCell, one_cell_put}
-use Rattle.fbc_rows.proofs.Over.{FromOver, elsewhere as moved_elsewhere, from_over, kept, made, over_unlinked, own_relation, taken_along}
-use Rattle.fbc_rows.proofs.TakenBack.{FromBelow, from_below, kept as was_kept, raised, raised_here, taken_unlinked}
+use Rattle.fbc_version_edits.specs.Differences.{IsPlace}
+use Rattle.fbc_version_edits.specs.Puts.{IsPutIn}
+use Rattle.fbc_version_edits.proofs.Flags.{top_of_back, top_of_empty, unreached}
+use Rattle.fbc_version_edits.proofs.NoLinkForms.{move_unlinked, no_link_move}
+use Rattle.fbc_version_edits.proofs.NoNewLinks.{BeginsRow, was_reached}
+use Rattle.fbc_version_edits.proofs.OneCell.{IsOneCell, one_cell_put}
+use Rattle.fbc_version_edits.proofs.Over.{FromOver, elsewhere as moved_elsewhere, from_over, kept, made, over_unlinked, own_relation, taken_along}
+use Rattle.fbc_version_edits.proofs.TakenBack.{FromBelow, from_below, kept as was_kept, raised, raised_here, taken_unlinked}
 use Rattle.fbc_origins.specs.Owed.{IsInOrder}
 use Rattle.fbc_origins.proofs.LinkTaken.{IsTaken, below-smaller}
 use Rattle.fbc_origins.proofs.Meant.{meant-newest}
@@ -29,7 +30,7 @@ use Rattle.fbc_origins.proofs.PutPages.{put-page, put-reached}
 use Rattle.fbc_origins.proofs.PutsAllowed.{allows-backout, allows-cut, allows-first, allows-move, allows-over, allows-own, holds_seen}
 use Rattle.fbc_origins.proofs.ViewsNext.{IsEditedView}
 
--- a back value that is put into an empty cell is not reached
+-- A back value that is put into an empty cell is not reached.
 pub moved_unreached : {view after : View} {number cell : ℕ} {new : Cell} (sound : IsSound view) (move : IsMove view number cell new) → IsOneCell view after number cell move.old new
     → (relation : ℕ) → ¬ ReachesCell after relation number cell
 moved_unreached {view = view} {number = number} {cell = cell} {new = new} sound move one relation reached = go (was_reached sound one (no_link_move sound number cell new move) relation number cell reached) where
@@ -49,7 +50,7 @@ module _ (at : Scene) (order : IsInOrder at) (owner page cell : ℕ) (content : 
   abbrev relation_is : ℕ
   relation_is = (put-page at owner page cell content g).data_page.relation
 
-  -- a top of the page is reached in the newest pages
+  -- A top of the page is reached in the newest pages.
   top_reached : (old : Cell) → cell_at (newest_at at) page cell ≡ Some old → is_top old.flag ≡ true → ReachesCell (newest_at at) relation_is page cell
   top_reached old stands is = ReachesCell.top (put-page at owner page cell content g).data_page.sequence page cell old (put-reached at owner page cell content g order.upheld) stands is
 
@@ -91,7 +92,7 @@ module _ (at : Scene) (order : IsInOrder at) (owner page cell : ℕ) (content : 
             at_moved place
             ((elsewhere at order owner page cell content made_page g seen stamps after later v put content.back_page content.back_cell moved_place).meant
             ∙ one_meaning at order owner page cell content made_page g seen stamps after later v put content.back_page content.back_cell (as_back f.old) (as_back f.old) form.below f.back stamp_seen
-            ∙ f.same_meant
+            ∙ f.same_meant (differ_from_test f.old.back_page 0 was.names.some)
             ∙ sym (ap (λ (s : Stamps). s.meant cell) v.sees.edited_page.stamps)
             ∙ before at order owner page cell content made_page g seen stamps after later v put relation page cell back_page back_cell form.old was
             ∙ sym (elsewhere at order owner page cell content made_page g seen stamps after later v put back_page back_cell
@@ -111,7 +112,7 @@ module _ (at : Scene) (order : IsInOrder at) (owner page cell : ℕ) (content : 
     unlinked_here : ¬ IsLinked seen page cell
     unlinked_here = taken_unlinked put.sound form one
 
-    -- the version below has a smaller number
+    -- The version below has a smaller number.
     apart : IsTaken f.old content → ⊥
     apart t =
         let smaller = below-smaller at order.upheld owner page cell content g f.old f.back f.stands f.over form.linked f.below in
@@ -155,7 +156,7 @@ module _ (at : Scene) (order : IsInOrder at) (owner page cell : ℕ) (content : 
         ∙ sym (elsewhere at order owner page cell content made_page g seen stamps after later v put back_page back_cell
         (not_to at order owner page cell content made_page g seen stamps after later v put unlinked_here relation f.old.back_page f.old.back_cell back_page back_cell (raised_here put.sound form one relation reached).below was)).born)
 
-  -- whatever is put
+  -- Whatever is put.
   pub puts-meant : put.page.relation ≡ relation_is → IsPut at owner page cell content → Stay
   puts-meant same (IsPut.first f) =
       first_meant at order owner page cell content made_page g seen stamps after later v put (allows-first at order.upheld order.numbered order.original owner page cell content g seen stamps v.sees f)

@@ -1,22 +1,14 @@
 -- The newest content is what an edit of an owner that has the page in EX begins with.
-use Rattle.std.proofs.Common.{◌≡◌, ℕ, Option, Some, None}
+use Rattle.std.proofs.Common.{◌≡◌, ℕ, Some}
 use Rattle.fbc_kinds.specs.declared.edits.Edit.{Edit}
-use Rattle.fbc_kinds.specs.declared.edits.Edit.TheVariants as edit
 use Rattle.fbc_kinds.specs.declared.pages.Page.{Page}
-use Rattle.fbc_kinds.specs.declared.shapes.Shape.{Shape}
-use Rattle.fbc_views.specs.Allowed.{Fits}
-use Rattle.fbc_world.specs.PageCell.{edited}
+use Rattle.fbc_page_edits.specs.Allowed.{Fits}
 use Rattle.fbc_world.specs.World.{World, page_after}
 use Rattle.fbc_legal.specs.Coherent.{IsCoherent}
 use Rattle.fbc_legal.specs.Guards.{GuardOfEdit}
 use Rattle.fbc_legal.specs.Scene.{Scene, newest_at}
 use Rattle.fbc_legal.proofs.HeaderGrowth.{exclusive-own, newest-own}
-
-fits_of : (shape : Shape) (e : Edit) (old : Option Page) (content : Page) → edited shape e old ≡ Some content → Fits shape e old content
-fits_of shape (edit.Format k p r s) (Some before) content is = is
-fits_of shape (edit.Format k p r s) None content is = is
-fits_of shape _ (Some before) content is = is
-fits_of shape _ None content is = absurd cc
+use Rattle.fbc_closed_cuts.proofs.UpheldEdits.{fits_of}
 
 pub newest-fits : (at : Scene) → IsCoherent at.world → (owner page : ℕ) (e : Edit) (content : Page) → GuardOfEdit at owner page e → page_after at.shape at.world owner page e ≡ Some content
     → Fits at.shape e (newest_at at page) content

@@ -8,7 +8,7 @@ use Rattle.fbc_kinds.specs.declared.pages.Page.{Page}
 use Rattle.fbc_kinds.specs.declared.shapes.Shape.{Shape}
 use Rattle.fbc_kinds.specs.DataSpelling.{empty_cell}
 use Rattle.fbc_kinds.specs.View.{cell_in}
-use Rattle.fbc_views.specs.Allowed.{Fits}
+use Rattle.fbc_page_edits.specs.Allowed.{Fits}
 use Rattle.fbc_legal.specs.Stamps.{Stamps, born_after, stamped, takes_link}
 use Rattle.fbc_origins.proofs.CellsAfter.{cells-cleared, cells-left, cells-put}
 use Rattle.fbc_origins.specs.Owed.{leaves_cells}

@@ -18,7 +18,7 @@ use Rattle.fbc_legal.specs.Scene.{scene_of}
 use Rattle.fbc_legal.specs.Stamps.{PageStamps, Stamps, born_after, born_in_newest, meant_after, meant_by, stamped, stamps_for, stamps_of, stamps_step, stamps_written, takes_link}
 use Rattle.fbc_origins.specs.Origins.{ArePast, StampsArePast}
 
--- what a list contains with one more in front
+-- What a list contains with one more in front.
 in_front : (x : ℕ) (xs : List ℕ) (y k : ℕ) → k < length (x ∷ xs) → slice_index_or (x ∷ xs) k y ≡ y → (y ≡ x) ⊎ Contains xs y
 in_front x xs y zero within is = inl (sym is)
 in_front x xs y (suc k) within is = inr (k, grind (arith, within), is)
@@ -114,7 +114,7 @@ module _ (count : ℕ) where
     step-past owner (Write number cause failed) landed page = wrote owner number page (not failed || landed)
     step-past owner _ landed page = stays page
 
--- after every history
+-- After every history.
 pub stamps-past : (shape : Shape) (file : View) (history : History) → StampsArePast (scene_of shape file history)
 stamps-past shape file [] page = (record { born = λ c. grind (arith); meant = λ c. grind (arith); edits = none }, record { born = λ c. grind (arith); meant = λ c. grind (arith); edits = none }) where
   none : (e : ℕ) → Contains [] e → e ≤ 0

@@ -8,25 +8,25 @@ use Rattle.fbc_kinds.specs.declared.pages.Page.{Page}
 use Rattle.fbc_kinds.specs.Reach.{LinksTo, NamesBack, ReachesCell}
 use Rattle.fbc_kinds.specs.View.{View, cell_at, cell_in}
 use Rattle.fbc_kinds.proofs.Tests.{differ_from_test, same_from_test, test_of_same}
-use Rattle.fbc_rows.specs.Forms.{IsCut, IsFirst, IsMove, IsOwnAgain}
-use Rattle.fbc_views.specs.Edited.{with_page}
-use Rattle.fbc_views.specs.Facing.{IsLinked}
+use Rattle.fbc_version_edits.specs.Forms.{IsCut, IsFirst, IsMove, IsOwnAgain}
+use Rattle.fbc_page_edits.specs.Edited.{with_page}
+use Rattle.fbc_page_edits.specs.Facing.{IsLinked}
 use Rattle.fbc_legal.specs.Guards.{GuardOfEdit}
 use Rattle.fbc_legal.specs.Scene.{Scene, born_at, meant_at, newest_at}
 use Rattle.fbc_legal.specs.Stamps.{Stamps, born_after, born_in_newest, is_same_flag, meant_after, meant_by, newest_stamps, stamp_after, stamped, takes_link}
 use Rattle.fbc_closed_cuts.specs.Owed.{IsSeenKept, IsSeenNewest}
-use Rattle.fbc_rows.specs.Differences.{IsPlace}
-use Rattle.fbc_rows.specs.Puts.{IsPutIn}
-use Rattle.fbc_rows.proofs.NoLinkForms.{first_unlinked, move_unlinked, no_link_cut, no_link_first, no_link_move, no_link_own, own_unlinked}
-use Rattle.fbc_rows.proofs.NoNewLinks.{names_none, no_more_links, other_links, own_links}
-use Rattle.fbc_rows.proofs.OneCell.{IsOneCell, here_or_not, is_new, one_cell_put}
+use Rattle.fbc_version_edits.specs.Differences.{IsPlace}
+use Rattle.fbc_version_edits.specs.Puts.{IsPutIn}
+use Rattle.fbc_version_edits.proofs.NoLinkForms.{first_unlinked, move_unlinked, no_link_cut, no_link_first, no_link_move, no_link_own, own_unlinked}
+use Rattle.fbc_version_edits.proofs.NoNewLinks.{names_none, no_more_links, other_links, own_links}
+use Rattle.fbc_version_edits.proofs.OneCell.{IsOneCell, here_or_not, is_new, one_cell_put}
 use Rattle.fbc_origins.specs.Owed.{IsInOrder}
 use Rattle.fbc_origins.proofs.LinkTaken.{IsTaken, taken}
 use Rattle.fbc_origins.proofs.Meant.{AreMeant, meant-newest, meant-seen}
 use Rattle.fbc_origins.proofs.PutPages.{IsPutPage, put-page}
 use Rattle.fbc_origins.proofs.ViewsNext.{IsEditedView}
 
--- a version takes no link where it can't
+-- A version takes no link where it can't.
 pub not_taken : (old new : Cell) → ¬ IsTaken old new → takes_link old new ≡ false
 not_taken old new apart = go (takes_link old new) refl where
   go : (b : Bool) → takes_link old new ≡ b → b ≡ false
@@ -54,7 +54,7 @@ module _ (at : Scene) (order : IsInOrder at) (owner page cell : ℕ) (content : 
   pub before : AreMeant seen stamps
   before = meant-seen at order.original.meant owner page seen stamps v.sees
 
-  -- other cells have the stamps that they had
+  -- Other cells have the stamps that they had.
   pub record HasSame (q c : ℕ) : Type 0 where
     pub born : (later q).born c ≡ (stamps q).born c
     pub meant : (later q).meant c ≡ (stamps q).meant c
@@ -72,14 +72,14 @@ module _ (at : Scene) (order : IsInOrder at) (owner page cell : ℕ) (content : 
     go true same true also = absurd (differ (same_from_test q page same, same_from_test c cell also))
     go true same false other = subst (λ p. HasSame p c) (sym (same_from_test q page same)) (on_page c other)
 
-  -- the cell itself
+  -- The cell itself.
   pub here_meant : (old : Cell) → cell_at (newest_at at) page cell ≡ Some old → (later page).meant cell ≡ (if takes_link old content then news.meant cell else meant_by (born_in_newest at.world at.stamps) content)
   here_meant old stands = ap (λ (s : Stamps). s.meant cell) v.now ∙ rw (test_of_same cell cell refl) (ap (meant_after (born_in_newest at.world at.stamps) (news.meant cell) content) stands)
 
   pub here_born : (old : Cell) → cell_at (newest_at at) page cell ≡ Some old → (later page).born cell ≡ (if takes_link old content then news.born cell else stamp_after at.past)
   here_born old stands = ap (λ (s : Stamps). s.born cell) v.now ∙ rw (test_of_same cell cell refl) (ap (born_after (stamp_after at.past) (news.born cell) content) stands)
 
-  -- a link that was there, between other cells
+  -- A link that was there, between other cells.
   pub kept_link : (relation from_page from_cell back_page back_cell : ℕ) (version : Cell) → LinksTo seen relation from_page from_cell version back_page back_cell → ¬ IsPlace page cell from_page from_cell → ¬ IsPlace page cell back_page back_cell
       → (later from_page).meant from_cell ≡ (later back_page).born back_cell
   kept_link relation from_page from_cell back_page back_cell version link from to =
@@ -89,16 +89,16 @@ module _ (at : Scene) (order : IsInOrder at) (owner page cell : ℕ) (content : 
   not_to none relation from_page from_cell back_page back_cell version link place =
       none (subst (λ c. IsLinked seen page c) place.1 (subst (λ p. IsLinked seen p back_cell) place.0 (record { relation = relation; from_page = from_page; from_cell = from_cell; version = version; links = link })))
 
-  -- what a new link means
+  -- What a new link means.
   pub names_it : (old : Cell) → cell_at (newest_at at) page cell ≡ Some old → ¬ IsTaken old content → (back_page back_cell : ℕ) → NamesBack content back_page back_cell → (later page).meant cell ≡ born_at at back_page back_cell
   names_it old stands apart back_page back_cell names =
       here_meant old stands ∙ rw (not_taken old content apart, names.some, names.page_is, names.cell_is) refl
 
-  -- what holds at the cell holds at a place that is it
+  -- What holds at the cell holds at a place that is it.
   pub at_place : (from_page from_cell back_page back_cell : ℕ) → IsPlace page cell from_page from_cell → (later page).meant cell ≡ (later back_page).born back_cell → (later from_page).meant from_cell ≡ (later back_page).born back_cell
   at_place from_page from_cell back_page back_cell place is = ap (λ p. (later p).meant from_cell) place.0 ∙ ap (λ c. (later page).meant c) place.1 ∙ is
 
-  -- a cell of one stamp in the view and in the newest pages means the same by its link
+  -- A cell of one stamp in the view and in the newest pages means the same by its link.
   pub one_meaning : (q c : ℕ) (x y : Cell) → cell_at seen q c ≡ Some x → cell_at (newest_at at) q c ≡ Some y → (stamps q).born c ≡ born_at at q c → (stamps q).meant c ≡ meant_at at q c
   one_meaning q c x y stands also one = go (v.sees.each q) where
     go : IsSeenNewest at q (seen q) (stamps q) ⊎ IsSeenKept at q (seen q) (stamps q) → (stamps q).meant c ≡ meant_at at q c
@@ -110,12 +110,12 @@ module _ (at : Scene) (order : IsInOrder at) (owner page cell : ℕ) (content : 
   abbrev pub p : IsPutPage at owner page cell content
   p = put-page at owner page cell content g
 
-  -- where a top of the page leads, as the newest pages have it
+  -- Where a top of the page leads, as the newest pages have it.
   pub top_link : (old : Cell) → cell_at (newest_at at) page cell ≡ Some old → ReachesCell (newest_at at) p.data_page.relation page cell → (back_page back_cell : ℕ) → NamesBack old back_page back_cell
       → LinksTo (newest_at at) p.data_page.relation page cell old back_page back_cell
   top_link old stands reached back_page back_cell names = record { reached = reached; stands = stands; names = names }
 
-  -- the links of the view with the page
+  -- The links of the view with the page.
   abbrev pub StayMeant : Type 0
   StayMeant = AreMeant next later
 
@@ -131,7 +131,7 @@ module _ (at : Scene) (order : IsInOrder at) (owner page cell : ℕ) (content : 
     go (inl place) = absurd (names_none content back_page back_cell form.alone (subst (λ (w : Cell). NamesBack w back_page back_cell) (is_new one from_page from_cell version place link.stands) link.names))
     go (inr differ) = kept_link relation from_page from_cell back_page back_cell version was differ (not_to (first_unlinked put.sound page cell content form) relation from_page from_cell back_page back_cell version was)
 
-  -- where an old top and its link stand as in the newest pages, both mean the same
+  -- Where an old top and its link stand as in the newest pages, both mean the same.
   pub agree : (old : Cell) → cell_at (newest_at at) page cell ≡ Some old → ReachesCell (newest_at at) p.data_page.relation page cell → (relation back_page back_cell : ℕ) → LinksTo seen relation page cell old back_page back_cell
       → born_at at back_page back_cell ≡ (stamps back_page).born back_cell
   agree old stands reached relation back_page back_cell link =

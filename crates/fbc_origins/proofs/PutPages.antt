@@ -12,8 +12,8 @@ use Rattle.fbc_kinds.specs.Limits.{slots}
 use Rattle.fbc_kinds.specs.Reach.{DataRole, Reaches}
 use Rattle.fbc_kinds.specs.Sound.{IsSound}
 use Rattle.fbc_kinds.specs.View.{View, named_in, pointer_of}
-use Rattle.fbc_views.specs.Edited.{IsOfShape}
-use Rattle.fbc_views.proofs.HeaderStands.{size_is}
+use Rattle.fbc_page_edits.specs.Edited.{IsOfShape}
+use Rattle.fbc_page_edits.proofs.HeaderStands.{size_is}
 use Rattle.fbc_world.specs.declared.drafts.Draft.{Draft}
 use Rattle.fbc_world.specs.PageCell.{newest_in}
 use Rattle.fbc_world.specs.World.{World, newest_of}
@@ -24,7 +24,7 @@ use Rattle.fbc_legal.specs.Scene.{Scene, newest_at}
 use Rattle.fbc_closed_cuts.specs.Cut.{Cut, IsClosedCut, view}
 use Rattle.fbc_closed_cuts.specs.Upheld.{IsUpheld}
 
--- the view of all drafts is the newest one
+-- The view of all drafts is the newest one.
 abbrev pub every_draft : World → Cut
 every_draft w page = is_some (w.draft page)
 
@@ -44,7 +44,7 @@ module _ (at : Scene) (u : IsUpheld at) where
   pub newest-shape : IsOfShape at.shape (newest_at at)
   newest-shape = subst (IsOfShape at.shape) (newest-view at.world) (u.of_shape (every_draft at.world) (newest-closed at.world))
 
--- a page that a pointer page names, as the shape counts, is reached
+-- A page that a pointer page names, as the shape counts, is reached.
 module _ (shape : Shape) (seen : View) (of_shape : IsOfShape shape seen) (sound : IsSound seen) where
   abbrev data_by : ℕ → ℕ → ℕ → Option ℕ
   data_by size relation sequence = option_and_then (λ (pointer : ℕ). named_in (seen pointer) (sequence % slots size)) (pointer_of seen relation (sequence / slots size))

@@ -1,7 +1,7 @@
 -- Each view that comes to hold an edited cell allows what is put there.
-use Rattle.std.proofs.Common.{◌≡◌, ◌≢◌, ◌∙◌, ◌<◌, ◌==◌, ◌⊎◌, inl, inr, ℕ, Bool, true, false, if◌then◌else◌, Option, Some, refl, sym, ap, subst, arith}
-use Rattle.std.proofs.lemmas.Bool.Decides.{nat_tests}
+use Rattle.std.proofs.Common.{◌≡◌, ◌≢◌, ◌∙◌, ◌<◌, ◌==◌, ◌⊎◌, inl, inr, ℕ, Bool, true, false, if◌then◌else◌, Option, Some, refl, sym, ap, subst}
 use Rattle.std.proofs.lemmas.Option.{same_Some}
+use Rattle.fbc_kinds.proofs.Tests.{test_of_different}
 use Rattle.fbc_kinds.specs.declared.edits.Edit.TheVariants.{PutCell}
 use Rattle.fbc_kinds.specs.declared.pages.Cell.{Cell}
 use Rattle.fbc_kinds.specs.declared.pages.Page.{Page}
@@ -10,9 +10,9 @@ use Rattle.fbc_kinds.specs.declared.pages.State.TheVariants.{Dead}
 use Rattle.fbc_kinds.specs.Reach.{LinksTo, ReachesCell}
 use Rattle.fbc_kinds.specs.Sound.{IsBackValue}
 use Rattle.fbc_kinds.specs.View.{View, cell_at, cell_in, is_back, is_committed_state, next_of}
-use Rattle.fbc_rows.specs.Forms.{AllowsPut, AllowsPutOn, IsBackout, IsCut, IsFirst, IsMove, IsOver, IsOwnAgain, IsRaised, NameTheSame, NamesNone}
-use Rattle.fbc_views.specs.Facing.{IsLinked}
-use Rattle.fbc_views.proofs.HeaderStands.{has_header}
+use Rattle.fbc_version_edits.specs.Forms.{AllowsPut, AllowsPutOn, IsBackout, IsCut, IsFirst, IsMove, IsOver, IsOwnAgain, IsRaised, NamesNone}
+use Rattle.fbc_page_edits.specs.Facing.{NameTheSame, IsLinked}
+use Rattle.fbc_page_edits.proofs.HeaderStands.{has_header}
 use Rattle.fbc_legal.specs.Facts.{HoldsBack}
 use Rattle.fbc_legal.specs.Guards.{GuardOfEdit}
 use Rattle.fbc_legal.specs.Leans.{LinkLeans}
@@ -27,15 +27,10 @@ use Rattle.fbc_numbers.specs.Numbers.{IsNumbered, IsSnapshotNumber, is_committed
 use Rattle.fbc_origins.specs.Origins.{IsOriginal, IsSameVersion}
 use Rattle.fbc_origins.proofs.PutPages.{IsPutPage, every_draft, newest-closed, newest-sound, newest-view, put-page, put-reached}
 use Rattle.fbc_origins.proofs.CellsKept.{same-itself}
-use Rattle.fbc_origins.proofs.Seeing.{begun-seen, committed-newest, committed-seen, lean-reached, lean-seen, one-stamps, one-view, seen-sound, stands-seen}
+use Rattle.fbc_closed_cuts.proofs.LeansSeen.{lean-seen}
+use Rattle.fbc_origins.proofs.Seeing.{begun-seen, committed-newest, committed-seen, lean-reached, one-stamps, one-view, seen-sound, stands-seen}
 
-pub test_of_differ : (a b : ℕ) → a ≢ b → (a == b) ≡ false
-test_of_differ a b apart = go (a == b) refl where
-  go : (c : Bool) → a == b ≡ c → c ≡ false
-  go true is = absurd (apart (grind (arith, nat_tests, is)))
-  go false is = refl
-
--- two cells that say the same are one
+-- Two cells that say the same are one.
 one_cell : (a b : Cell) → b.flag ≡ a.flag → b.number ≡ a.number → b.value ≡ a.value → NameTheSame a b → a ≡ b
 one_cell a b same_flag same_number same_value link =
     λ i. record { flag = sym same_flag i; number = sym same_number i; value = sym same_value i; back_page = sym link.page i; back_cell = sym link.cell i }
@@ -68,9 +63,9 @@ module _ (at : Scene) (u : IsUpheld at) (n : IsNumbered at) (origin : IsOriginal
   allows-move f = record { old = f.old; stands = stands f.old f.stands; over = f.over; value = ap (λ (v : Cell). is_back v.flag) f.same; begun = begun }
 
   abbrev pub allows-cut : IsCutAt at page cell content → IsCut seen page cell content
-  allows-cut f = record { old = f.old; stands = stands f.old f.stands; linked = test_of_differ f.old.back_page 0 f.linked; same = f.same }
+  allows-cut f = record { old = f.old; stands = stands f.old f.stands; linked = test_of_different f.old.back_page 0 f.linked; same = f.same }
 
-  -- a new version over another's
+  -- A new version over another's.
   module _ (f : IsNewVersion at owner page cell content) where
     pub held : (is_committed_in at.world.kept f.old.number ≡ true) × (f.old.number < f.t.number)
     held = go (n.snapshots owner f.t f.old.number f.open_is f.held) where
@@ -78,7 +73,7 @@ module _ (at : Scene) (u : IsUpheld at) (n : IsNumbered at) (origin : IsOriginal
       go (inl same) = absurd (f.over_other same)
       go (inr both) = both
 
-    -- the header holds no back value
+    -- The header holds no back value.
     pub no_header : content.back_page ≢ 0
     no_header same =
         let header = has_header (newest_at at) (newest-sound at u) in
@@ -90,7 +85,7 @@ module _ (at : Scene) (u : IsUpheld at) (n : IsNumbered at) (origin : IsOriginal
     abbrev stamp : ℕ
     stamp = born_at at content.back_page content.back_cell
 
-    -- the back value stands in the view as in the newest pages
+    -- The back value stands in the view as in the newest pages.
     pub back_there : IsSeenNewest at content.back_page (seen content.back_page) (stamps content.back_page) ⊎ IsSeenKept at content.back_page (seen content.back_page) (stamps content.back_page)
         → HoldsBack p.data_page.relation content.back_cell content.number stamp (seen content.back_page) (stamps content.back_page)
         → cell_at seen content.back_page content.back_cell ≡ Some (as_back f.old)
@@ -120,17 +115,17 @@ module _ (at : Scene) (u : IsUpheld at) (n : IsNumbered at) (origin : IsOriginal
       top = f.top;
       newer = rw f.own held.1;
       begun = begun;
-      linked = test_of_differ content.back_page 0 no_header;
+      linked = test_of_different content.back_page 0 no_header;
       sequence = leans.sequence;
       named = lean-reached at owner page seen stamps sees u p.data_page.relation leans.sequence leans.pointer content.back_page no_header leans.named leans.pointed;
       below = back_there (sees.each content.back_page) holds_seen;
       unreached = unreached;
     }
 
-  -- a version is taken back
+  -- A version is taken back.
   module _ (f : IsBackoutAt at page cell content) where
     pub linked : (f.old.back_page == 0) ≡ false
-    linked = test_of_differ f.old.back_page 0 f.linked
+    linked = test_of_different f.old.back_page 0 f.linked
 
     pub uncommitted : (b : Bool) → is_committed_in seen f.old.number ≡ b → b ≡ false
     uncommitted false is = refl
@@ -144,7 +139,7 @@ module _ (at : Scene) (u : IsUpheld at) (n : IsNumbered at) (origin : IsOriginal
       names = record { some = linked; page_is = refl; cell_is = refl };
     }
 
-    -- what the top meant stands in the newest pages, and in each view that reaches it
+    -- What the top meant stands in the newest pages, and in each view that reaches it.
     newest_meant : (newest_stamps at.world at.stamps page).meant cell ≡ born_at at f.old.back_page f.old.back_cell
     newest_meant = ap (λ (s : Stamps). s.meant cell) (sym (same_stamps page)) ∙ meant_in ∙ ap (λ (s : Stamps). s.born f.old.back_cell) (same_stamps f.old.back_page) where
       meant_in : (view_stamps at.world at.stamps (every_draft at.world) page).meant cell ≡ (view_stamps at.world at.stamps (every_draft at.world) f.old.back_page).born f.old.back_cell

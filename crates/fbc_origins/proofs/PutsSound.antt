@@ -5,7 +5,7 @@ use Rattle.fbc_kinds.specs.declared.pages.Page.{Page}
 use Rattle.fbc_kinds.specs.declared.shapes.Shape.{Shape}
 use Rattle.fbc_kinds.specs.View.{View}
 use Rattle.std.proofs.Common.{ℕ}
-use Rattle.fbc_rows.specs.Forms.{IsAdmittedEdit}
+use Rattle.fbc_version_edits.specs.Forms.{IsAdmittedEdit}
 use Rattle.fbc_world.specs.History.{History}
 use Rattle.fbc_legal.specs.Scene.{scene_of}
 use Rattle.fbc_legal.specs.Stamps.{Stamps}

@@ -11,7 +11,7 @@ use Rattle.fbc_kinds.specs.Limits.{slots}
 use Rattle.fbc_kinds.specs.Reach.{DataRole, Reaches}
 use Rattle.fbc_kinds.specs.Sound.{IsSound}
 use Rattle.fbc_kinds.specs.View.{View, cell_at, header_in, next_of, pointer_of, slot_in, unless_zero}
-use Rattle.fbc_views.specs.Edited.{IsOfShape}
+use Rattle.fbc_page_edits.specs.Edited.{IsOfShape}
 use Rattle.fbc_legal.specs.Facts.{Fact, HasNextAbove, NamesInSlot, NamesPointer}
 use Rattle.fbc_legal.specs.Leans.{IsShown}
 use Rattle.fbc_legal.specs.Scene.{Scene, HasDraft, IsBefore, newest_at}
@@ -21,35 +21,20 @@ use Rattle.fbc_closed_cuts.specs.Owed.{IsSeenKept, IsSeenNewest, SeesEdit}
 use Rattle.fbc_closed_cuts.specs.Upheld.{IsUpheld}
 use Rattle.fbc_closed_cuts.specs.Views.{view_stamps}
 use Rattle.fbc_numbers.specs.Numbers.{CommitsGrow, is_committed_in}
+use Rattle.fbc_closed_cuts.proofs.LeansSeen.{lean-seen}
 use Rattle.fbc_origins.proofs.PutPages.{every_draft, named-reached, newest-closed, newest-view}
 
 module _ (at : Scene) (owner edited : ℕ) (seen : View) (stamps : ℕ → Stamps) (sees : SeesEdit at owner edited seen stamps) where
-  -- the view and its stamps are those of the cut
+  -- The view and its stamps are those of the cut.
   pub one-view : view at.world sees.cut ≡ seen
   one-view = sym (fun_ext sees.pages)
 
   pub one-stamps : view_stamps at.world at.stamps sees.cut ≡ stamps
   one-stamps = sym (fun_ext sees.origins)
 
-  -- a cell of the edited page stands as in the newest pages
+  -- A cell of the edited page stands as in the newest pages.
   pub stands-seen : (cell : ℕ) (version : Cell) → cell_at (newest_at at) edited cell ≡ Some version → cell_at seen edited cell ≡ Some version
   stands-seen cell version stands = rw sees.edited_page.page stands
-
-  -- a fact of a page that is shown as newest, or as it is kept
-  of_newest : (fact : Fact) (other : ℕ) → IsSeenNewest at other (seen other) (stamps other) → fact (newest_at at other) (newest_stamps at.world at.stamps other) → fact (seen other) (stamps other)
-  of_newest fact other shown is = subst (λ (s : Stamps). fact (seen other) s) (sym shown.stamps) (subst (λ (p : Option Page). fact p (newest_stamps at.world at.stamps other)) (sym shown.page) is)
-
-  of_kept : (fact : Fact) (other : ℕ) → IsSeenKept at other (seen other) (stamps other) → fact (at.world.kept other) (at.stamps.kept other) → fact (seen other) (stamps other)
-  of_kept fact other shown is = subst (λ (s : Stamps). fact (seen other) s) (sym shown.stamps) (subst (λ (p : Option Page). fact p (at.stamps.kept other)) (sym shown.page) is)
-
-  pub lean-seen : (fact : Fact) (other : ℕ) → IsShown at owner edited other fact → fact (seen other) (stamps other)
-  lean-seen fact other is = go (sees.each other) is.in_time where
-    go : IsSeenNewest at other (seen other) (stamps other) ⊎ IsSeenKept at other (seen other) (stamps other)
-        → (other ≡ edited) ⊎ fact (at.world.kept other) (at.stamps.kept other) ⊎ (HasDraft at owner other × IsBefore at other edited) → fact (seen other) (stamps other)
-    go (inl shown) time = of_newest fact other shown is.newest
-    go (inr shown) (inl same) = of_newest fact other (subst (λ p. IsSeenNewest at p (seen p) (stamps p)) (sym same) sees.edited_page) is.newest
-    go (inr shown) (inr (inl kept)) = of_kept fact other shown kept
-    go (inr shown) (inr (inr own)) = of_newest fact other (sees.before other own.0 own.1) is.newest
 
   module _ (u : IsUpheld at) where
     pub seen-sound : IsSound seen
@@ -58,12 +43,12 @@ module _ (at : Scene) (owner edited : ℕ) (seen : View) (stamps : ℕ → Stamp
     pub seen-shape : IsOfShape at.shape seen
     seen-shape = subst (IsOfShape at.shape) one-view (u.of_shape sees.cut sees.closed)
 
-    -- a data page that is shown as named is reached
+    -- A data page that is shown as named is reached.
     pub lean-reached : (relation sequence pointer page : ℕ) → page ≢ 0 → IsShown at owner edited pointer (NamesInSlot (sequence % slots at.shape.size) page) → IsShown at owner edited 0 (NamesPointer relation (sequence / slots at.shape.size) pointer)
         → Reaches seen (DataRole relation sequence) page
     lean-reached relation sequence pointer page some named pointed =
-        let by_header = lean-seen (NamesPointer relation (sequence / slots at.shape.size) pointer) 0 pointed in
-        let in_slot : slot_in (seen pointer) (sequence % slots at.shape.size) ≡ Some page = lean-seen (NamesInSlot (sequence % slots at.shape.size) page) pointer named in
+        let by_header = lean-seen at owner edited seen stamps sees (NamesPointer relation (sequence / slots at.shape.size) pointer) 0 pointed in
+        let in_slot : slot_in (seen pointer) (sequence % slots at.shape.size) ≡ Some page = lean-seen at owner edited seen stamps sees (NamesInSlot (sequence % slots at.shape.size) page) pointer named in
         let other : unless_zero page ≡ Some page = not_zero (page == 0) refl in
         named-reached at.shape seen seen-shape seen-sound relation sequence pointer page (pointer_by by_header.0 by_header.1 by_header.2 by_header.3 by_header.4) (ap (option_and_then unless_zero) in_slot ∙ other)
       where
@@ -75,17 +60,17 @@ module _ (at : Scene) (owner edited : ℕ) (seen : View) (stamps : ℕ → Stamp
             → pointer_of seen relation (sequence / slots at.shape.size) ≡ Some pointer
         pointer_by h entry header found is = rw (header, found) is
 
-  -- a number that was begun
+  -- A number that was begun.
   pub begun-seen : (number : ℕ) → IsShown at owner edited 0 (HasNextAbove number) → number < next_of seen
   begun-seen number shown =
-      let found = lean-seen (HasNextAbove number) 0 shown in
+      let found = lean-seen at owner edited seen stamps sees (HasNextAbove number) 0 shown in
       above found.0 found.1 found.2
     where
       above : (h : Header) → header_in (seen 0) ≡ Some h → number < h.next → number < next_of seen
       above h is below = rw is below
 
   module _ (grow : CommitsGrow at.world) where
-    -- what is committed in the file is committed in each view, and what is so there, in the newest pages
+    -- What is committed in the file is committed in each view, and what is so there, in the newest pages.
     pub committed-seen : (number : ℕ) → is_committed_in at.world.kept number ≡ true → is_committed_in seen number ≡ true
     committed-seen number is =
         subst (λ (v : View). is_committed_in v number ≡ true) one-view

@@ -18,7 +18,7 @@ use Rattle.fbc_legal.specs.Stamps.{PageStamps, Stamps, born_in_newest, newest_st
 use Rattle.fbc_legal.proofs.Exclusion.{IsOwnDraft, same_number}
 use Rattle.fbc_legal.proofs.HeaderGrowth.{exclusive-own, newest-own}
 
--- an owner that has a page in EX has its newest stamps
+-- An owner that has a page in EX has its newest stamps.
 pub stamps-own : (owner : ℕ) (draft : Option Draft) (drafts keeps : Stamps) → IsOwnDraft owner draft
     → (if is_draft_of owner draft then drafts else keeps) ≡ (if is_some draft then drafts else keeps)
 stamps-own owner None drafts keeps own = refl
@@ -44,15 +44,15 @@ module _ (R : Option Page → Stamps → Option Page → Stamps → Type 0) (ref
     abbrev w : World
     w = at.world
 
-    -- what holds of the page's kept and newest content
+    -- What holds of the page's kept and newest content.
     abbrev pub Holds : World → PageStamps → Type 0
     Holds world stamps = R (world.kept number) (stamps.kept number) (newest_of world number) (newest_stamps world stamps number)
 
-    -- the page with its stamps after an edit
+    -- The page with its stamps after an edit.
     abbrev pub restamped : Edit → Stamps
     restamped e = stamped stamp (born_in_newest w at.stamps) (newest_at at number) e (newest_stamps w at.stamps number)
 
-    -- each edit of the page keeps it
+    -- Each edit of the page keeps it.
     abbrev pub EditsKeep : Type 0
     EditsKeep = (e : Edit) → GuardOfEdit at owner number e → (content : Page) → page_after at.shape w owner number e ≡ Some content → Holds w at.stamps
         → R (w.kept number) (at.stamps.kept number) (Some content) (restamped e)
@@ -67,7 +67,7 @@ module _ (R : Option Page → Stamps → Option Page → Stamps → Type 0) (ref
       go true same = in_file owner (w.kept number) (w.draft number) (at.stamps.kept number) (at.stamps.draft number) (rw (same_number number page same) its)
       go false other = r
 
-    -- the stamps after an edit of a page by which this one comes
+    -- The stamps after an edit of a page by which this one comes.
     abbrev made_of : ℕ → Edit → Stamps
     made_of page e = stamped stamp (born_in_newest w at.stamps) (page_for owner (w.kept page) (w.draft page)) e (stamps_for owner w at.stamps page)
 

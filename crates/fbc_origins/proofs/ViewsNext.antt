@@ -7,7 +7,7 @@ use Rattle.fbc_kinds.specs.declared.edits.Edit.{Edit}
 use Rattle.fbc_kinds.specs.declared.pages.Page.{Page}
 use Rattle.fbc_kinds.specs.declared.shapes.Shape.{Shape}
 use Rattle.fbc_kinds.specs.View.{View}
-use Rattle.fbc_views.specs.Edited.{with_page}
+use Rattle.fbc_page_edits.specs.Edited.{with_page}
 use Rattle.fbc_world.specs.declared.events.Act.TheVariants.{Local}
 use Rattle.fbc_world.specs.declared.events.LocalEvent.TheVariants as local
 use Rattle.fbc_world.specs.History.{History, Moment, happens}
@@ -48,7 +48,7 @@ module _ (shape : Shape) (file : View) (before : History) (Holds : View → (ℕ
   same-view after after_stamps cut earlier same is =
       subst (λ (v : View). Holds v (view_stamps after after_stamps cut)) (sym (fun_ext same.pages)) (subst (λ (s : ℕ → Stamps). Holds (view w earlier) s) (sym (fun_ext same.stamps)) is)
 
-  -- no other act than an edit makes a view
+  -- No other act than an edit makes a view.
   pub views-acted : (moment : Moment) → IsLegal shape file (moment ∷ before) → is_edit moment.event.act ≡ false → EveryView at Holds → EveryView (scene_of shape file (moment ∷ before)) Holds
   views-acted moment legal plain each cut closed =
       let same = no-new-views shape file before moment cut legal plain closed in

@@ -1,2 +1,4 @@
 pub mod Origins
 pub mod Owed
+pub mod Rows
+pub mod Cuts

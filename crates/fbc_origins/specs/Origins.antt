@@ -3,8 +3,8 @@ use Rattle.std.specs.Prelude.{◌≡◌, ◌⊎◌, ◌≤◌, ℕ, Contains, So
 use Rattle.fbc_kinds.specs.declared.pages.Cell.{Cell}
 use Rattle.fbc_kinds.specs.Reach.{LinksTo}
 use Rattle.fbc_kinds.specs.View.{View, cell_at, cell_in, is_back}
-use Rattle.fbc_rows.specs.Forms.{NameTheSame, NamesNone}
-use Rattle.fbc_views.specs.Facing.{IsLinked}
+use Rattle.fbc_version_edits.specs.Forms.{NamesNone}
+use Rattle.fbc_page_edits.specs.Facing.{NameTheSame, IsLinked}
 use Rattle.fbc_legal.specs.Scene.{Scene, born_at, newest_at}
 use Rattle.fbc_legal.specs.Stamps.{Stamps, newest_stamps}
 use Rattle.fbc_legal.specs.Traces.{IsMovedBy, IsUnlinkedBy}

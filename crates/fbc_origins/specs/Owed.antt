@@ -4,8 +4,8 @@ use Rattle.fbc_kinds.specs.declared.edits.Edit.{Edit}
 use Rattle.fbc_kinds.specs.declared.edits.Edit.TheVariants as edit
 use Rattle.fbc_kinds.specs.declared.pages.Page.{Page}
 use Rattle.fbc_kinds.specs.View.{View}
-use Rattle.fbc_views.specs.Alike.{HasNoMoreLinks}
-use Rattle.fbc_views.specs.Edited.{with_page}
+use Rattle.fbc_page_edits.specs.Alike.{HasNoMoreLinks}
+use Rattle.fbc_page_edits.specs.Edited.{with_page}
 use Rattle.fbc_world.specs.World.{page_after}
 use Rattle.fbc_legal.specs.Guards.{GuardOfEdit}
 use Rattle.fbc_legal.specs.Scene.{Scene}

@@ -10,11 +10,11 @@ ghost use Rattle.fbc_legal.specs.Guards.{GuardOfEdit};
 ghost use Rattle.fbc_legal.specs.Scene.{Scene, scene_of};
 ghost use Rattle.fbc_legal.specs.Stamps.{Stamps};
 ghost use Rattle.fbc_origins.specs.Owed.{IsInOrder};
-ghost use Rattle.fbc_rows.specs.Forms.{AllowsClear, AllowsPutOn};
+ghost use Rattle.fbc_version_edits.specs.Forms.{AllowsClear, AllowsPutOn};
 ghost use Rattle.fbc_world.specs.History.{History};
 ghost use Rattle.std.specs.Prelude.{ℕ};
 
-use fbc_rows::edits_keep_views_sound;
+use fbc_version_edits::edits_keep_views_sound;
 
 /// Where all is in order, each view that comes to hold an edited cell allows what is put there.
 pub fn puts_are_allowed()
@@ -30,14 +30,16 @@ pub fn clears_are_allowed()
 
 /// Where all is in order, a version that is put leaves each view that sees it sound.
 pub fn put_cell_keeps_views_sound()
-    ensures { (shape : Shape) (file : View) (past : History) (cell : ℕ) (content : Cell) → IsInOrder (scene_of shape file past) → KeepsViewsSound shape file past (PutCell cell content) }
+    ensures { (shape : Shape) (file : View) (past : History) (cell : ℕ) (content : Cell)
+        → IsInOrder (scene_of shape file past) → KeepsViewsSound shape file past (PutCell cell content) }
 {
     edits_keep_views_sound();
 }
 
 /// So does a cell that is cleared.
 pub fn clear_cell_keeps_views_sound()
-    ensures { (shape : Shape) (file : View) (past : History) (cell : ℕ) → IsInOrder (scene_of shape file past) → KeepsViewsSound shape file past (ClearCell cell) }
+    ensures { (shape : Shape) (file : View) (past : History) (cell : ℕ) → IsInOrder (scene_of shape file past)
+        → KeepsViewsSound shape file past (ClearCell cell) }
 {
     edits_keep_views_sound();
 }

@@ -1,3 +1,4 @@
 pub mod LandingLemmas
+pub mod RawFileLemmas
 pub mod SinkLemmas
 pub mod WrittenLemmas

@@ -4,5 +4,6 @@ pub mod Faults
 pub mod Landings
 pub mod Memory
 pub mod MemoryStreams
+pub mod RawFile
 pub mod Steady
 pub mod Streams

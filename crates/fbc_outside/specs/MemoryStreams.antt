@@ -3,27 +3,27 @@ use Rattle.std.specs.Prelude.{ℕ, ◌+◌, ◌-◌, ◌==◌, List, length, dro
 use Rattle.fbc_outside.specs.declared.memory_streams.MemorySource.{MemorySource}
 use Rattle.fbc_outside.specs.declared.memory_streams.MemorySink.{MemorySink}
 
--- the number of the call that fails, if one does, is the next after so many earlier calls
+-- The number of the call that fails, if one does, is the next after so many earlier calls.
 abbrev pub is_next : Option ℕ → ℕ → Bool
 is_next None calls = false
 is_next (Some number) calls = number == calls + 1
 
--- the bytes that a source has left
+-- The bytes that a source has left.
 abbrev pub left_of : MemorySource → List ℕ
 left_of s = drop s.taken s.bytes.items
 
--- the number of its call that fails
+-- The number of its call that fails.
 abbrev pub fail_of : MemorySource → Option ℕ
 fail_of s = s.fail
 
--- how many calls of it there were
+-- How many calls of it there were.
 abbrev pub reads_of : MemorySource → ℕ
 reads_of s = s.reads
 
--- the bytes that a sink has taken
+-- The bytes that a sink has taken.
 abbrev pub taken_by : MemorySink → List ℕ
 taken_by s = s.buffer.bytes.items
 
--- how many more bytes it has room for
+-- How many more bytes it has room for.
 abbrev pub room_of : MemorySink → ℕ
 room_of s = s.buffer.limit - length (taken_by s)

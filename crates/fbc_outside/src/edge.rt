@@ -1,19 +1,22 @@
 //! The thin edge: a file, a reader and a writer of the machine. A call that the machine refuses is
-//! a counted fault, nothing is tried again, and of the bytes nothing is told.
+//! a counted fault, and of the bytes nothing is told. Of a file whole pieces are read and written,
+//! also where the machine does a part at a time or is interrupted; a reader and a writer are asked
+//! once.
 ghost use Rattle.std.specs.Prelude.{◌≡◌, ◌^◌, [], None};
 
 use crate::device::Device;
 use crate::fault::{Failed, count_fault};
+use crate::raw_file::{read_whole, write_whole};
 use crate::stream::{Sink, Source};
 use std::fs::File;
 use std::io::{Read, Write};
-use std::os::unix::fs::FileExt;
 
 /// How many bytes a file can have at most: 2^40.
 pub const FILE_REACH: u64 = 1 << 40;
 
-/// A file as a device. A file that is longer than the reach fails at `length`, and a write that the
-/// machine cuts short fails.
+/// A file as a device. A file that is longer than the reach fails at `length`. A read or a write goes
+/// on after a part of its piece and after an interruption, and fails only where the machine fails it;
+/// so a write that fails halfway may leave a first part of its piece, which no clause tells.
 #[derive(Drop)]
 pub struct FileDevice {
     file: File,
@@ -67,7 +70,7 @@ impl Device for FileDevice {
 
     fn read_at(&mut self, at: u64, into: &mut [u8]) -> Result<usize, Failed> {
         self.reads = self.reads.saturating_add(1);
-        match self.file.read_at(into, at) {
+        match read_whole(&mut self.file, at, into) {
             Ok(count) => Ok(count),
             Err(_) => Err(count_fault(&mut self.faults)),
         }
@@ -75,9 +78,9 @@ impl Device for FileDevice {
 
     fn write_at(&mut self, at: u64, from: &[u8]) -> Result<(), Failed> {
         self.writes = self.writes.saturating_add(1);
-        match self.file.write_at(from, at) {
-            Ok(count) if count == from.len() => Ok(()),
-            _ => Err(count_fault(&mut self.faults)),
+        match write_whole(&mut self.file, at, from) {
+            Ok(()) => Ok(()),
+            Err(_) => Err(count_fault(&mut self.faults)),
         }
     }
 }

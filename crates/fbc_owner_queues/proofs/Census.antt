@@ -10,7 +10,7 @@ use Rattle.fbc_levels.specs.LockState.{LockState}
 use Rattle.fbc_owner_queues.specs.Living.{has, with_owner, with_living, living_owners}
 use Rattle.fbc_owner_queues.proofs.Members.{has-insert}
 
--- how many of these are not yet in the list
+-- How many of these are not yet in the list.
 abbrev missing : List ℕ → List ℕ → ℕ
 missing [] os = 0
 missing (c ∷ census) os = if has os c then missing census os else 1 + missing census os
@@ -19,7 +19,7 @@ missing-none : (census : List ℕ) → missing census [] ≤ length census
 missing-none [] = omega arith
 missing-none (c ∷ census) = omega (arith, missing-none census)
 
--- where nobody leaves the list, no more are missing
+-- Where nobody leaves the list, no more are missing.
 missing-more : (census os more : List ℕ) → ((x : ℕ) → has os x ≡ true → has more x ≡ true) → missing census more ≤ missing census os
 missing-more [] os more keeps = omega arith
 missing-more (c ∷ census) os more keeps = step (has os c) refl (has more c) refl (missing-more census os more keeps) where
@@ -29,7 +29,7 @@ missing-more (c ∷ census) os more keeps = step (has os c) refl (has more c) re
   step false is true also rest = omega (arith, rest)
   step false is false also rest = omega (arith, rest)
 
--- who comes into the list is missing no more
+-- Who comes into the list is missing no more.
 missing-less : (census os more : List ℕ) (x : ℕ) → ((y : ℕ) → has os y ≡ true → has more y ≡ true) → has os x ≡ false → has more x ≡ true → has census x ≡ true → missing census more + 1 ≤ missing census os
 missing-less [] os more x keeps out here of = absurd (cc)
 missing-less (c ∷ census) os more x keeps out here of = step (c == x) refl (has os c) refl (has more c) refl of (missing-less census os more x keeps out here) (missing-more census os more keeps) where
@@ -45,7 +45,7 @@ missing-less (c ∷ census) os more x keeps out here of = step (c == x) refl (ha
   step false is false was true now of' rest most = omega (arith, rest of')
   step false is false was false now of' rest most = omega (arith, rest of')
 
--- one living owner more is one missing owner less
+-- One living owner more is one missing owner less.
 owner_fits : (census os : List ℕ) (o : ℕ) → has census o ≡ true → length (with_owner o os) + missing census (with_owner o os) ≤ length os + missing census os
 owner_fits census os o of = step (has os o) refl where
   step : (b : Bool) → has os o ≡ b → length (if b then os else insert os (length (take_while (λ y. nat_lt y o) os)) o) + missing census (if b then os else insert os (length (take_while (λ y. nat_lt y o) os)) o) ≤ length os + missing census os

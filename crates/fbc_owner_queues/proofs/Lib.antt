@@ -1,5 +1,5 @@
 mod Lists
-mod Paths
+pub mod Paths
 mod Shut
 mod Members
 mod Outcomes
@@ -10,3 +10,4 @@ mod Census
 mod Raises
 mod Settled
 mod Ordered
+pub mod Named

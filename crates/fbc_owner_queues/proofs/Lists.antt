@@ -11,7 +11,7 @@ use Rattle.fbc_owner_queues.specs.Search.{leaving}
 same_test : (o x k : ℕ) → o == x ≡ true → not (o == k) ≡ not (x == k)
 same_test o x k is = grind (arith, nat_tests)
 
--- who is in the list that an owner left: those that were, but for that owner
+-- Who is in the list that an owner left: those that were, but for that owner.
 pub has-leaving : (os : List ℕ) (k x : ℕ) → has (leaving os k) x ≡ (not (x == k) && has os x)
 has-leaving os k x = any-filter_same (λ o. o == x) (λ o. not (o == k)) (not (x == k)) (λ o is. same_test o x k is) os
 
@@ -24,11 +24,11 @@ has-leaving_none os k x none = has-leaving os k x ∙ grind (arith, nat_tests)
 pub has-leaving_other : (os : List ℕ) (k x : ℕ) → x == k ≡ false → has os x ≡ true → has (leaving os k) x ≡ true
 has-leaving_other os k x other there = has-leaving os k x ∙ grind (arith, nat_tests)
 
--- no longer list is left
+-- No longer list is left.
 pub length-leaving_most : (os : List ℕ) (k : ℕ) → length (leaving os k) ≤ length os
 length-leaving_most os k = omega (arith, length-filter_both (λ o. not (o == k)) (λ o. not (not (o == k))) (λ o. refl) os)
 
--- the list becomes shorter where the owner was in it
+-- The list becomes shorter where the owner was in it.
 pub length-leaving : (os : List ℕ) (k : ℕ) → has os k ≡ true → length (leaving os k) + 1 ≤ length os
 length-leaving [] k there = absurd (cc)
 length-leaving (o ∷ os) k there = step (o == k) there (length-leaving os k) where
@@ -36,7 +36,7 @@ length-leaving (o ∷ os) k there = step (o == k) there (length-leaving os k) wh
   step true is rest = omega (arith, length-leaving_most os k)
   step false is rest = omega (arith, rest is)
 
--- what holds of each element holds of one that is there
+-- What holds of each element holds of one that is there.
 pub at_member : (os : List ℕ) (P : ℕ → Type 0) (x : ℕ) → AllByRecursion P os → has os x ≡ true → P x
 at_member [] P x all there = absurd (cc)
 at_member (o ∷ os) P x all there = step (o == x) refl there (λ there'. at_member os P x all.1 there') where
@@ -47,7 +47,7 @@ at_member (o ∷ os) P x all there = step (o == x) refl there (λ there'. at_mem
   step true is there' rest = subst P (same is) all.0
   step false is there' rest = rest there'
 
--- the same of a loop that has gone over all of the list
+-- The same of a loop that has gone over all of the list.
 pub shorter : (os rest : List ℕ) (n k : ℕ) → length os ≤ n → rest ≡ leaving (take n os) k → has os k ≡ true → length rest < length os
 shorter os rest n k all is there =
     let whole : rest ≡ leaving os k = is ∙ ap (λ xs. leaving xs k) (take_all n os all) in

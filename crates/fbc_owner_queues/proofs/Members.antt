@@ -12,7 +12,7 @@ use Rattle.fbc_levels.specs.LockState.{LockState, wait_of}
 use Rattle.fbc_levels.specs.Waits.{is_waited_for, is_wait_for, is_for_number, waits_for_number}
 use Rattle.fbc_owner_queues.specs.Living.{has, with_owner, with_living, living_owners}
 
--- an insertion adds the owner and nobody else
+-- An insertion adds the owner and nobody else.
 pub has-insert : (os : List ℕ) (n o x : ℕ) → has (insert os n o) x ≡ ((o == x) || has os x)
 has-insert os n o x =
     let parts : has os x ≡ (has (take n os) x || has (drop n os) x) = ap (λ ys. has ys x) (sym (take-append-drop n os)) ∙ list_any-append (λ y. y == x) (take n os) (drop n os) in
@@ -25,7 +25,7 @@ has-insert os n o x =
 length-insert_most : (os : List ℕ) (n o : ℕ) → length os ≤ length (insert os n o)
 length-insert_most os n o = grind (arith, common_steps, take-append-drop n os)
 
--- nobody is lost, and the owner is among them
+-- Nobody is lost, and the owner is among them.
 pub has-with_owner_kept : (os : List ℕ) (o x : ℕ) → has os x ≡ true → has (with_owner o os) x ≡ true
 has-with_owner_kept os o x there = step (has os o) where
   step : (b : Bool) → has (if b then os else insert os (length (take_while (λ y. nat_lt y o) os)) o) x ≡ true
@@ -44,7 +44,7 @@ length-with_owner os o = step (has os o) where
   step true = omega arith
   step false = length-insert_most os (length (take_while (λ y. nat_lt y o) os)) o
 
--- the same for a request
+-- The same for a request.
 has-with_living : (os : List ℕ) (r : Request) (x : ℕ) → has os x ≡ true → has (with_living os r) x ≡ true
 has-with_living os r x there = step r.alive where
   step : (b : Bool) → has (if b then with_owner r.owner os else os) x ≡ true
@@ -65,7 +65,7 @@ length-fold : (rs : List Request) (os : List ℕ) → length os ≤ length (fold
 length-fold [] os = omega arith
 length-fold (r ∷ rs) os = omega (arith, length-with_living os r, length-fold rs (with_living os r))
 
--- so far there are at most as many as in the end
+-- So far there are at most as many as in the end.
 pub fold_step : (rs : List Request) (os : List ℕ) (k : ℕ) (r : Request) → slice_get rs k ≡ Some r → with_living (fold with_living os (take k rs)) r ≡ fold with_living os (take (suc k) rs)
 fold_step [] os k r at = absurd (cc)
 fold_step (q ∷ rs) os zero r at =
@@ -81,7 +81,7 @@ fold_fits rs k n r at fits =
     let whole : fold with_living [] rs ≡ fold with_living (fold with_living [] (take (suc k) rs)) (drop (suc k) rs) = ap (fold with_living []) (sym (take-append-drop (suc k) rs)) ∙ fold-append with_living [] (take (suc k) rs) (drop (suc k) rs) in
     omega (arith, ap length (fold_step rs [] k r at), ap length whole, length-fold (drop (suc k) rs) (fold with_living [] (take (suc k) rs)))
 
--- an owner with a living request is among them
+-- An owner with a living request is among them.
 any_living : (wait : Request) (rs : List Request) (os : List ℕ) (x : ℕ) → list_any (λ r. (r.owner == x) && is_waited_for wait r) rs ≡ true → has (fold with_living os rs) x ≡ true
 any_living wait [] os x any = absurd (cc)
 any_living wait (r ∷ rs) os x any = step (r.owner == x) refl (is_waited_for wait r) refl any (λ any'. any_living wait rs (with_living os r) x any') where
@@ -100,7 +100,7 @@ any_living wait (r ∷ rs) os x any = step (r.owner == x) refl (is_waited_for wa
   step true is false for any' rest = rest any'
   step false is c for any' rest = rest any'
 
--- who is waited for is among the living owners
+-- Who is waited for is among the living owners.
 pub waited_lives : (s : LockState) (owner other : ℕ) → waits_for_number s owner other ≡ true → has (living_owners s) other ≡ true
 waited_lives s owner other waits = step (wait_of s owner) waits where
   second : (b c : Bool) → (b && c) ≡ true → c ≡ true
@@ -111,7 +111,7 @@ waited_lives s owner other waits = step (wait_of s owner) waits where
   step None waits' = absurd (cc)
   step (Some wait) waits' = any_living wait s.requests [] other (second (is_for_number wait) (is_wait_for s other wait) waits')
 
--- there are no more living owners than requests
+-- There are no more living owners than requests.
 most_living : (rs : List Request) (os : List ℕ) → length (fold with_living os rs) ≤ length os + length rs
 most_living [] os = omega arith
 most_living (r ∷ rs) os = omega (arith, most_living rs (with_living os r), one_more r.alive) where

@@ -9,7 +9,7 @@ use Rattle.fbc_levels.specs.LockState.{LockState, is_alive_of}
 use Rattle.fbc_owner_queues.specs.Living.{has, with_owner, with_living, living_owners}
 use Rattle.fbc_owner_queues.proofs.Members.{has-insert}
 
--- each is less than all behind it
+-- Each is less than all behind it.
 abbrev IsRising : List ℕ → Type 0
 IsRising [] = Unit {0}
 IsRising (x ∷ xs) = AllByRecursion (λ y. x < y) xs × IsRising xs
@@ -18,7 +18,7 @@ above : (x y : ℕ) → x < y → (ys : List ℕ) → AllByRecursion (λ z. y < 
 above x y less [] all = tt
 above x y less (z ∷ ys) all = (omega (arith, all.0), above x y less ys all.1)
 
--- where the owner comes into rising owners
+-- Where the owner comes into rising owners.
 abbrev place : ℕ → List ℕ → ℕ
 place o os = length (take_while (λ y. nat_lt y o) os)
 
@@ -87,7 +87,7 @@ pairs (x ∷ xs) rising = AllPairs-cons (λ o p. o < p) x xs (All-from_recursion
 pub living_rising : (s : LockState) → AllPairs (λ o p. o < p) (living_owners s)
 living_rising s = pairs (living_owners s) (rising-all s.requests [] tt)
 
--- who comes in
+-- Who comes in.
 has-owner : (o x : ℕ) (os : List ℕ) → has (with_owner o os) x ≡ ((o == x) || has os x)
 has-owner o x os = step (has os o) refl where
   within : has os o ≡ true → has os x ≡ ((o == x) || has os x)

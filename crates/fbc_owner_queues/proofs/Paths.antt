@@ -7,11 +7,11 @@ use Rattle.fbc_owner_queues.specs.Living.{has}
 use Rattle.fbc_owner_queues.specs.Search.{Outcome, leaving, begun, entered, onward, stepped, tried, searched}
 
 module _ (waits : ℕ → ℕ → Bool) (goal : ℕ) where
-  -- the one owner waits for the other
+  -- The one owner waits for the other.
   abbrev W : ℕ → ℕ → Type 0
   W owner other = waits owner other ≡ true
 
-  -- what enters an owner answers only with paths from there to the goal
+  -- What enters an owner answers only with paths from there to the goal.
   abbrev LeadsOn : (ℕ → List ℕ → Outcome) → Type 0
   LeadsOn enter = (k : ℕ) (free path : List ℕ) → enter k free ≡ Ok path → Leads W k path goal
 
@@ -50,7 +50,7 @@ module _ (waits : ℕ → ℕ → Bool) (goal : ℕ) where
   searched_leads owners (suc depth) owner free path found =
       tried_leads (searched waits owners goal depth) (searched_leads owners depth) owner owners free path found
 
--- a path through an owner is a path to it and a path from it
+-- A path through an owner is a path to it and a path from it.
 pub Leads-split : (R : ℕ → ℕ → Type 0) (x : ℕ) (xs : List ℕ) (y : ℕ) (ys : List ℕ) (z : ℕ) → Leads R x (xs ++ y ∷ ys) z → Leads R x xs y × Leads R y ys z
 Leads-split R x [] y ys z leads = (leads.0, leads.1)
 Leads-split R x (w ∷ xs) y ys z leads =
@@ -61,7 +61,7 @@ pub Leads-join : (R : ℕ → ℕ → Type 0) (x : ℕ) (xs : List ℕ) (y : ℕ
 Leads-join R x [] y ys z first second = (first, second)
 Leads-join R x (w ∷ xs) y ys z first second = (first.0, Leads-join R w xs y ys z first.1 second)
 
--- a circle stays one where its front is put behind it
+-- A circle stays one where its front is put behind it.
 pub IsCircle-turned : (R : ℕ → ℕ → Type 0) (front back : List ℕ) → IsCircle R (front ++ back) → IsCircle R (back ++ front)
 IsCircle-turned R [] back circle = subst (IsCircle R) (sym (append-nil back)) circle
 IsCircle-turned R (a ∷ as') [] circle = subst (IsCircle R) (append-nil (a ∷ as')) circle

@@ -18,11 +18,11 @@ use Rattle.fbc_lock_table.proofs.Lawful.{the_request, entered_all}
 use Rattle.fbc_owner_queues.specs.Grants.{next_grant, with_grant, first_of, without_request}
 use Rattle.fbc_owner_queues.specs.Turns.{WantsMore, AllWantMore}
 
--- a raise of a level is a raise of each level below that
+-- A raise of a level is a raise of each level below that.
 lower_more : (held lower wanted : Level) → join held wanted ≡ wanted → join held lower ≡ held → join lower wanted ≡ wanted
 lower_more held lower wanted more gives = grind (arith)
 
--- requests that pass, and requests that each are changed
+-- Requests that pass, and requests that each are changed.
 module _ (s : LockState) (all : AllWantMore s) where
   kept_by : (f : Request → Request) → ((r : Request) → WantsMore r → WantsMore (f r)) → All WantsMore (map f s.requests)
   kept_by f keeps = All-map WantsMore f s.requests (λ k d within. keeps (get_or s.requests k d) (all k d within))
@@ -30,7 +30,7 @@ module _ (s : LockState) (all : AllWantMore s) where
   fewer : (p : Request → Bool) → All WantsMore (filter p s.requests)
   fewer p = All-filter p WantsMore s.requests all
 
--- who waits by none of its requests wants more whatever it is granted
+-- Who waits by none of its requests wants more whatever it is granted.
 waits_for_nothing : (owner : ℕ) (resource : Resource) (level : Level) (r : Request) → is_wait_of owner r ≡ false → WantsMore r → WantsMore (with_granted owner resource level r)
 waits_for_nothing owner resource level r none more = step (is_of owner resource r) refl where
   idle : (waiting : Option Level) → is_some waiting ≡ false → IfSome waiting (λ wanted. join level wanted ≡ wanted)
@@ -41,14 +41,14 @@ waits_for_nothing owner resource level r none more = step (is_of owner resource 
   step true is = idle r.waiting (waits_not owner r none (is_of-owner owner resource r is))
   step false is = more
 
--- who is queued for a raise wants more
+-- Who is queued for a raise wants more.
 queued : (owner : ℕ) (resource : Resource) (level : Level) (r : Request) → (is_of owner resource r ≡ true → join r.granted level ≡ level) → WantsMore r → WantsMore (with_waiting owner resource level r)
 queued owner resource level r raises more = step (is_of owner resource r) raises where
   step : (b : Bool) → (b ≡ true → join r.granted level ≡ level) → IfSome (if b then Some level else r.waiting) (λ wanted. join r.granted wanted ≡ wanted)
   step true raises' = raises' refl
   step false raises' = more
 
--- what is asked is a raise for each request of the owner for the resource
+-- What is asked is a raise for each request of the owner for the resource.
 raise_of_each : (s : LockState) (owner : ℕ) (resource : Resource) (level : Level) → IsLawful s → join (granted_of s owner resource) level ≡ level → All (λ r. is_of owner resource r ≡ true → join r.granted level ≡ level) s.requests
 raise_of_each s owner resource level l raises k d within is = given (get_or s.requests k d) (the_request s owner resource l k d within is) where
   given : (r : Request) → request_of s owner resource ≡ Some r → join r.granted level ≡ level
@@ -57,7 +57,7 @@ raise_of_each s owner resource level l raises k d within is = given (get_or s.re
 raise_of_none : (level : Level) → join Free level ≡ level
 raise_of_none level = grind (arith)
 
--- an ask
+-- An ask.
 asked_more : (s : LockState) (owner : ℕ) (resource : Resource) (level : Level) (word : ℕ) (answer : Asked) → IsLawful s → MayAsk s owner resource level → join (granted_of s owner resource) level ≡ level → AllWantMore s → AllWantMore (after_ask s owner resource level word answer)
 asked_more s owner resource level word Granted l may raises all =
     All-map WantsMore (with_granted owner resource level) (entered s.requests owner resource word)
@@ -76,7 +76,7 @@ asked_more s owner resource level word (Dead dead) l may raises all = all
 pub ask_keeps : (s : LockState) (owner : ℕ) (resource : Resource) (level : Level) (word : ℕ) (answer : Asked) → IsLawful s → MayAsk s owner resource level → join (granted_of s owner resource) level ≡ level → AllWantMore s → AllWantMore (after_ask s owner resource level word answer)
 ask_keeps = asked_more
 
--- a lowering
+-- A lowering.
 lower_keeps_one : (owner : ℕ) (resource : Resource) (level : Level) (r : Request) → (is_of owner resource r ≡ true → join r.granted level ≡ r.granted) → WantsMore r → WantsMore (with_granted owner resource level r)
 lower_keeps_one owner resource level r gives more = step (is_of owner resource r) gives where
   below : (waiting : Option Level) → IfSome waiting (λ wanted. join r.granted wanted ≡ wanted) → join r.granted level ≡ r.granted → IfSome waiting (λ wanted. join level wanted ≡ wanted)
@@ -105,7 +105,7 @@ lower_keeps s owner resource level l gives all = step level gives where
   step Pw gives' = set Pw gives'
   step Ex gives' = set Ex gives'
 
--- a withdrawal
+-- A withdrawal.
 withdraw_keeps_one : (owner : ℕ) (r : Request) → WantsMore r → WantsMore (without_wait owner r)
 withdraw_keeps_one owner r more = step (r.owner == owner) where
   step : (b : Bool) → IfSome (if b then None else r.waiting) (λ wanted. join r.granted wanted ≡ wanted)
@@ -117,11 +117,11 @@ withdraw_keeps s owner all =
     let rest : List Request = filter (λ r. not (is_bare_wait_of owner r)) s.requests in
     kept_by (record s { requests = rest }) (fewer s all (λ r. not (is_bare_wait_of owner r))) (without_wait owner) (withdraw_keeps_one owner)
 
--- a death
+-- A death.
 pub die_keeps : (s : LockState) (owner : ℕ) → AllWantMore s → AllWantMore (died s owner)
 die_keeps s owner all = kept_by s all (of_dead owner) (λ r more. more)
 
--- a grant
+-- A grant.
 grant_keeps_one : (owner : ℕ) (resource : Resource) (r : Request) → WantsMore r → WantsMore (granting owner resource r)
 grant_keeps_one owner resource r more = step (is_of owner resource r) where
   step : (b : Bool) → IfSome (if b then None else r.waiting) (λ wanted. join (if b then unwrap_or r.waiting r.granted else r.granted) wanted ≡ wanted)
@@ -134,7 +134,7 @@ grant_keeps s resource all = step (next_grant s resource) where
   step None = all
   step (Some r) = kept_by s all (granting r.owner r.resource) (grant_keeps_one r.owner r.resource)
 
--- a purge of one request
+-- A purge of one request.
 pub purge_keeps : (s : LockState) (owner : ℕ) → AllWantMore s → AllWantMore (without_request s (first_of s owner))
 purge_keeps s owner all = step (first_of s owner) where
   step : (o : Option Request) → AllWantMore (without_request s o)

@@ -15,7 +15,7 @@ use Rattle.fbc_lock_table.proofs.Ways.{is_of-self, same_resource-self}
 use Rattle.fbc_owner_queues.specs.Grants.{is_clear, is_grantable, next_grant, with_grant}
 use Rattle.fbc_owner_queues.specs.Turns.{granted_times}
 
--- how many requests wait
+-- How many requests wait.
 abbrev waiting : List Request → ℕ
 waiting [] = 0
 waiting (r ∷ rs) = if is_some r.waiting then 1 + waiting rs else waiting rs
@@ -27,7 +27,7 @@ most_wait (r ∷ rs) = step (is_some r.waiting) (most_wait rs) where
   step true most = omega (arith, most)
   step false most = omega (arith, most)
 
--- none waits that did not
+-- None waits that did not.
 granting_waits : (o : ℕ) (res : Resource) (r : Request) → is_some (granting o res r).waiting ≡ true → is_some r.waiting ≡ true
 granting_waits o res r = step (is_of o res r) where
   step : (b : Bool) → is_some (if b then None else r.waiting) ≡ true → is_some r.waiting ≡ true
@@ -44,7 +44,7 @@ no_more_wait : (o : ℕ) (res : Resource) (rs : List Request) → waiting (map (
 no_more_wait o res [] = omega arith
 no_more_wait o res (r ∷ rs) = counted (is_some (granting o res r).waiting) (is_some r.waiting) _ _ (granting_waits o res r) (no_more_wait o res rs)
 
--- a request that can be granted waits
+-- A request that can be granted waits.
 clear_waits : (s : LockState) (w : Option Level) (owner : ℕ) (res : Resource) → option_map_or (λ level. is_none (holder_of s owner res level)) w false ≡ true → is_some w ≡ true
 clear_waits s None owner res is = absurd (cc)
 clear_waits s (Some level) owner res is = refl
@@ -57,7 +57,7 @@ second false b c is = absurd (cc)
 grantable_waits : (s : LockState) (resource : Resource) (r : Request) → is_grantable s resource r ≡ true → is_some r.waiting ≡ true
 grantable_waits s resource r is = clear_waits s r.waiting r.owner r.resource (second (is_same_resource r.resource resource) r.alive (is_clear s r) is)
 
--- a grant of one that is found leaves fewer that wait
+-- A grant of one that is found leaves fewer that wait.
 fewer_wait : (s : LockState) (resource : Resource) (rs : List Request) (r : Request) → find (is_grantable s resource) rs ≡ Some r → waiting (map (granting r.owner r.resource) rs) + 1 ≤ waiting rs
 fewer_wait s resource [] r is = absurd (cc)
 fewer_wait s resource (q ∷ rs) r is = step (is_grantable s resource q) refl is (fewer_wait s resource rs r) where
@@ -84,7 +84,7 @@ fewer_wait s resource (q ∷ rs) r is = step (is_grantable s resource q) refl is
   step true can found rest = let same : q ≡ r = cc in subst FewerBy same (here (grantable_waits s resource q can))
   step false can found rest = later (is_some (granting r.owner r.resource q).waiting) (is_some q.waiting) _ _ (granting_waits r.owner r.resource q) (rest found)
 
--- once nobody can be granted, more grants change nothing
+-- Once nobody can be granted, more grants change nothing.
 stays : (n : ℕ) (resource : Resource) (s : LockState) → next_grant s resource ≡ None → next_grant (granted_times n resource s) resource ≡ None
 stays zero resource s end = end
 stays (suc n) resource s end =
@@ -104,7 +104,7 @@ ends (suc n) resource s few = step (next_grant s resource) refl (ends n resource
 pub grants_end : (s : LockState) (resource : Resource) → next_grant (granted_times (length s.requests) resource s) resource ≡ None
 grants_end s resource = ends (length s.requests) resource s (most_wait s.requests)
 
--- what is found passes and does not fail another test of all
+-- What is found passes and does not fail another test of all.
 found_by : {X : Type 0} (p q : X → Bool) (xs : List X) (x : X) → find p xs ≡ Some x → find q xs ≡ None → (p x ≡ true) × (q x ≡ false)
 found_by p q [] x is none = absurd (cc)
 found_by {X} p q (y ∷ ys) x is none = step (p y) refl (q y) refl is none (found_by p q ys x) where
@@ -121,7 +121,7 @@ lives_by {X} p d (y ∷ ys) x is none = step (p y) (d y) refl is none (lives_by 
   step true false db is' none' rest = let same : y ≡ x = cc in ap d (sym same) ∙ db
   step false false db is' none' rest = rest is' (rw db at none')
 
--- a look answers Granted to a wait only where nobody is in the way
+-- A look answers Granted to a wait only where nobody is in the way.
 in_way : (s : LockState) (owner : ℕ) (res : Resource) (w : Option Level) → is_some w ≡ true → option_map_or (λ level. is_none (holder_of s owner res level)) w false ≡ false → answer_to_waiter (holder_of_wait s res w owner) ≡ looked.Granted → ⊥
 in_way s owner res None waits not_clear is = absurd (cc)
 in_way s owner res (Some level) waits not_clear is = step (holder_of s owner res level) not_clear is where

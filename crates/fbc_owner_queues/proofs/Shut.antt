@@ -8,25 +8,25 @@ use Rattle.fbc_levels.specs.Waits.{Leads}
 use Rattle.fbc_owner_queues.proofs.Lists.{at_member, has-leaving_self, has-leaving_none, has-leaving_other, length-leaving}
 
 module _ (waits : ℕ → ℕ → Bool) (owners : List ℕ) (goal : ℕ) where
-  -- it is not the goal, and it was entered or never free
+  -- It is not the goal, and it was entered or never free.
   pub record IsPast (free : List ℕ) (k : ℕ) : Type 0 where
     pub no_goal : k == goal ≡ false
     pub taken : has free k ≡ false
 
-  -- those of the list that it waits for are past
+  -- Those of the list that it waits for are past.
   abbrev pub IsShutFor : List ℕ → ℕ → List ℕ → Type 0
   IsShutFor free x ks = AllByRecursion (λ k. waits x k ≡ true → IsPast free k) ks
 
   abbrev pub IsShut : List ℕ → ℕ → Type 0
   IsShut free x = IsShutFor free x owners
 
-  -- between these moments owners were entered, each of which is shut now
+  -- Between these moments owners were entered, each of which is shut now.
   pub record Went (before after : List ℕ) : Type 0 where
     pub taken : (x : ℕ) → has before x ≡ false → has after x ≡ false
     pub shorter : length after ≤ length before
     pub shut : (x : ℕ) → has before x ≡ true → has after x ≡ false → IsShut after x
 
-  -- what is past stays past
+  -- What is past stays past.
   past_later : (before after : List ℕ) (k : ℕ) → Went before after → IsPast before k → IsPast after k
   past_later before after k went past = record { no_goal = past.no_goal; taken = went.taken k past.taken }
 
@@ -34,7 +34,7 @@ module _ (waits : ℕ → ℕ → Bool) (owners : List ℕ) (goal : ℕ) where
   later before after x [] went past = tt
   later before after x (k ∷ ks) went past = ((λ waited. past_later before after k went (past.0 waited)), later before after x ks went past.1)
 
-  -- nothing was entered
+  -- Nothing was entered.
   still : (free : List ℕ) → Went free free
   still free = record {
     taken = λ x none. none;
@@ -42,7 +42,7 @@ module _ (waits : ℕ → ℕ → Bool) (owners : List ℕ) (goal : ℕ) where
     shut = λ x there none. absurd (cc);
   }
 
-  -- one moment after another
+  -- One moment after another.
   on : (before between after : List ℕ) → Went before between → Went between after → Went before after
   on before between after first second = record {
     taken = λ x none. second.taken x (first.taken x none);
@@ -53,7 +53,7 @@ module _ (waits : ℕ → ℕ → Bool) (owners : List ℕ) (goal : ℕ) where
     step x was gone true held = second.shut x held gone
     step x was gone false held = later between after x owners second (first.shut x was held)
 
-  -- an owner that was free is entered, and shut afterwards
+  -- An owner that was free is entered, and shut afterwards.
   into : (free after : List ℕ) (k : ℕ) → has free k ≡ true → Went (leaving free k) after → IsShut after k → Went free after
   into free after k there went shut = record {
     taken = λ x none. went.taken x (has-leaving_none free k x none);
@@ -67,7 +67,7 @@ module _ (waits : ℕ → ℕ → Bool) (owners : List ℕ) (goal : ℕ) where
     step x was gone true is = rw (same x is) shut
     step x was gone false is = went.shut x (has-leaving_other free k x is was) gone
 
-  -- what enters an owner while few are free ends with that owner shut, where it finds no path
+  -- What enters an owner while few are free ends with that owner shut, where it finds no path.
   abbrev pub Ends : ℕ → (ℕ → List ℕ → Outcome) → Type 0
   Ends n enter = (k : ℕ) (free after : List ℕ) → length free < n → enter k free ≡ Err after → Went free after × IsShut after k
 
@@ -112,7 +112,7 @@ module _ (waits : ℕ → ℕ → Bool) (owners : List ℕ) (goal : ℕ) where
   searched_ends (suc depth) owner free after few found =
       tried_ends depth (searched waits owners goal depth) (searched_ends depth) owner owners free after (omega arith) found
 
-  -- an owner that is shut leads to the goal by no path of owners that were free, and none of the list leads outside it
+  -- An owner that is shut leads to the goal by no path of owners that were free, and none of the list leads outside it.
   pub no_way : (before after : List ℕ) → Went before after → ((x y : ℕ) → waits x y ≡ true → has owners y ≡ true) → ((y : ℕ) → has owners y ≡ true → y == goal ≡ false → has before y ≡ true) → (x : ℕ) → IsShut after x → (rest : List ℕ) → Leads (λ a b. waits a b ≡ true) x rest goal → ⊥
   no_way before after went inside free x shut [] leads =
       let past = at_member owners (λ k. waits x k ≡ true → IsPast after k) goal shut (inside x goal leads) leads in

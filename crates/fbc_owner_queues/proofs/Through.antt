@@ -8,12 +8,12 @@ use Rattle.fbc_owner_queues.proofs.Lists.{has-leaving_other}
 use Rattle.fbc_owner_queues.proofs.Members.{waited_lives}
 use Rattle.fbc_owner_queues.proofs.Shut.{searched_ends, no_way}
 
--- a path of waits ends at a living owner
+-- A path of waits ends at a living owner.
 ends_living : (s : LockState) (first : ℕ) (rest : List ℕ) (last : ℕ) → Leads (WaitsForNumber s) first rest last → has (living_owners s) last ≡ true
 ends_living s first [] last leads = waited_lives s first last leads
 ends_living s first (next ∷ rest) last leads = ends_living s next rest last leads.1
 
--- no circle goes through an owner that has no living request
+-- No circle goes through an owner that has no living request.
 pub none_outside : (s : LockState) (owner : ℕ) → has (living_owners s) owner ≡ false → (others : List ℕ) → Leads (WaitsForNumber s) owner others owner → ⊥
 none_outside s owner outside others leads =
     let there = ends_living s owner others owner leads in

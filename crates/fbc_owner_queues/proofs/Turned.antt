@@ -17,12 +17,12 @@ use Rattle.fbc_lock_table.proofs.Lawful.{wait_granted_lawful, the_request}
 use Rattle.fbc_owner_queues.specs.Grants.{is_clear, is_grantable, next_grant, with_grant}
 use Rattle.fbc_owner_queues.specs.Turns.{visited, passed, granted_times, WantsMore, AllWantMore}
 
--- what holds of each holds of one in the middle
+-- What holds of each holds of one in the middle.
 all_mid : {X : Type 0} (P : X → Type 0) (xs : List X) (y : X) (ys : List X) → AllByRecursion P (xs ++ y ∷ ys) → P y
 all_mid P [] y ys all = all.0
 all_mid P (x ∷ xs) y ys all = all_mid P xs y ys all.1
 
--- those before one and those behind it are related to it
+-- Those before one and those behind it are related to it.
 pairs_before : {X : Type 0} (R : X → X → Type 0) (xs : List X) (y : X) (ys : List X) → AllPairs R (xs ++ y ∷ ys) → AllByRecursion (λ x. R x y) xs
 pairs_before R [] y ys pairs = tt
 pairs_before R (x ∷ xs) y ys pairs =
@@ -32,14 +32,14 @@ pairs_behind : {X : Type 0} (R : X → X → Type 0) (xs : List X) (y : X) (ys :
 pairs_behind R [] y ys pairs = recursion_from_All (R y) ys (AllPairs-head R y ys pairs)
 pairs_behind R (x ∷ xs) y ys pairs = pairs_behind R xs y ys (AllPairs-tail R x (xs ++ y ∷ ys) pairs)
 
--- a request that is apart from this one is not of its owner and resource
+-- A request that is apart from this one is not of its owner and resource.
 other_of : (r q : Request) → (q.owner ≡ r.owner → q.resource ≢ r.resource) → is_of r.owner r.resource q ≡ false
 other_of r q apart = step (is_of r.owner r.resource q) refl where
   step : (b : Bool) → is_of r.owner r.resource q ≡ b → b ≡ false
   step true is = absurd (apart (is_of-owner r.owner r.resource q is) (is_of-resource r.owner r.resource q is))
   step false is = refl
 
--- such requests stay as they are
+-- Such requests stay as they are.
 grant_keeps : (owner : ℕ) (resource : Resource) (q : Request) → is_of owner resource q ≡ false → granting owner resource q ≡ q
 grant_keeps owner resource q other = rw other refl
 
@@ -55,14 +55,14 @@ joined : {X : Type 0} (P : X → Type 0) (xs ys : List X) → AllByRecursion P x
 joined P [] ys first second = second
 joined P (x ∷ xs) ys first second = (first.0, joined P xs ys first.1 second)
 
--- the requests after a grant
+-- The requests after a grant.
 after_requests : (done : List Request) (r : Request) (rest : List Request) → AllPairs AreApart (done ++ r ∷ rest) → map (granting r.owner r.resource) (done ++ r ∷ rest) ≡ done ++ granting r.owner r.resource r ∷ rest
 after_requests done r rest apart =
     let before = map_keeps r.owner r.resource done (weaker (λ q. AreApart q r) (λ q. is_of r.owner r.resource q ≡ false) (λ q a. other_of r q a) done (pairs_before AreApart done r rest apart)) in
     let behind = map_keeps r.owner r.resource rest (weaker (AreApart r) (λ q. is_of r.owner r.resource q ≡ false) (λ q a. other_of r q (λ same alike. a (sym same) (sym alike))) rest (pairs_behind AreApart done r rest apart)) in
     map-append (granting r.owner r.resource) done (r ∷ rest) ∙ rw (before, behind) refl
 
--- somebody is in the way where a test finds one
+-- Somebody is in the way where a test finds one.
 none_in_way : (p : Request → Bool) (rs : List Request) → is_none (reduce lesser (filter p rs)) ≡ not (list_any p rs)
 none_in_way p [] = refl
 none_in_way p (r ∷ rs) = step (p r) (none_in_way p rs) where
@@ -70,7 +70,7 @@ none_in_way p (r ∷ rs) = step (p r) (none_in_way p rs) where
   step true rest = refl
   step false rest = rest
 
--- a level that conflicts with the old one conflicts with a greater one
+-- A level that conflicts with the old one conflicts with a greater one.
 rises : (old new level : Level) → join old new ≡ new → is_compatible level old ≡ false → is_compatible level new ≡ false
 rises old new level more conflict = grind (arith)
 
@@ -78,7 +78,7 @@ more_waited : (waiting : Option Level) (held level : Level) → IfSome waiting (
 more_waited None held level more conflict = conflict
 more_waited (Some wanted) held level more conflict = rises held wanted level more conflict
 
--- who was in the way is so after a grant
+-- Who was in the way is so after a grant.
 parts : (a b : Bool) (old new : Bool) → (old ≡ false → new ≡ false) → (a && b && not old) ≡ true → (a && b && not new) ≡ true
 parts true true old new stays is = step old new stays is where
   step : (o n : Bool) → (o ≡ false → n ≡ false) → not o ≡ true → not n ≡ true
@@ -106,7 +106,7 @@ any_stays owner resource o res level (q ∷ rs) more any = step (stands_in_way o
   step false is any' rest = rw (rest any') (or_true (stands_in_way owner resource level (granting o res q)))
 
 module _ (t : LockState) (o : ℕ) (res : Resource) (more : AllByRecursion WantsMore t.requests) where
-  -- who could not be granted what it waits for cannot after another's grant
+  -- Who could not be granted what it waits for cannot after another's grant.
   clear_stays : (q : Request) (waiting : Option Level) → option_map_or (λ level. is_none (holder_of t q.owner q.resource level)) waiting false ≡ false → option_map_or (λ level. is_none (holder_of (after_grant t o res) q.owner q.resource level)) waiting false ≡ false
   clear_stays q None not_clear = refl
   clear_stays q (Some level) not_clear =
@@ -123,7 +123,7 @@ module _ (t : LockState) (o : ℕ) (res : Resource) (more : AllByRecursion Wants
     step true c stays none' = stays none'
     step false c stays none' = refl
 
-  -- each still wants more
+  -- Each still wants more.
   more_kept : (q : Request) → WantsMore q → WantsMore (granting o res q)
   more_kept q wants = step (is_of o res q) where
     step : (b : Bool) → IfSome (if b then None else q.waiting) (λ level. join (if b then unwrap_or q.waiting q.granted else q.granted) level ≡ level)
@@ -138,16 +138,16 @@ and_false : (a : Bool) → (a && false) ≡ false
 and_false true = refl
 and_false false = refl
 
--- who was granted what it waited for waits no more
+-- Who was granted what it waited for waits no more.
 granted_waits_not : (t : LockState) (resource : Resource) (r : Request) → is_grantable t resource (granting r.owner r.resource r) ≡ false
 granted_waits_not t resource r = rw (is_of-self r) (and_false (is_same_resource r.resource resource && r.alive))
 
--- a search passes over those that do not pass
+-- A search passes over those that do not pass.
 find_behind : {X : Type 0} (p : X → Bool) (xs ys : List X) → AllByRecursion (λ x. p x ≡ false) xs → find p (xs ++ ys) ≡ find p ys
 find_behind p [] ys none = refl
 find_behind p (x ∷ xs) ys none = rw none.0 (find_behind p xs ys none.1)
 
--- a request that can be granted may be
+-- A request that can be granted may be.
 may_grant : (t : LockState) (resource : Resource) (r : Request) → is_grantable t resource r ≡ true → request_of t r.owner r.resource ≡ Some r → MayGrant t r.owner r.resource
 may_grant t resource r can found = rw found (clear r.waiting (second (is_same_resource r.resource resource && r.alive) (is_clear t r) can)) where
   second : (a b : Bool) → (a && b) ≡ true → b ≡ true
@@ -162,7 +162,7 @@ may_grant t resource r can found = rw found (clear r.waiting (second (is_same_re
   clear None is = tt
   clear (Some level) is = nobody (holder_of t r.owner r.resource level) is
 
--- what is left of a pass comes to so many grants of the first, and then nobody can be granted
+-- What is left of a pass comes to so many grants of the first, and then nobody can be granted.
 record Turns (resource : Resource) (t after : LockState) (rest : List Request) : Type 0 where
   times : ℕ
   few : times ≤ length rest
@@ -198,7 +198,7 @@ turns resource (r ∷ rest) done t are l more none = step (is_grantable t resour
       let first : next_grant t resource ≡ Some r = ap (find (is_grantable t resource)) are ∙ find_behind (is_grantable t resource) done (r ∷ rest) none ∙ rw can refl in
       record { times = suc on.times; few = omega (arith, on.few); same = rw first on.same; end = on.end }
 
--- once nobody can be granted, more grants change nothing
+-- Once nobody can be granted, more grants change nothing.
 settled : (m : ℕ) (resource : Resource) (s : LockState) → next_grant s resource ≡ None → granted_times m resource s ≡ s
 settled zero resource s end = refl
 settled (suc m) resource s end = rw end (settled m resource s end)
@@ -210,7 +210,7 @@ enough zero m resource s after few same end =
 enough (suc n) zero resource s after few same end = absurd (omega arith)
 enough (suc n) (suc m) resource s after few same end = enough n m resource (with_grant s (next_grant s resource)) after (omega arith) same end
 
--- a pass from the start
+-- A pass from the start.
 all_turns : (s : LockState) (resource : Resource) → IsLawful s → AllWantMore s → Turns resource s (passed resource s) s.requests
 all_turns s resource l more = turns resource s.requests [] s refl l (recursion_from_All WantsMore s.requests more) tt
 

@@ -6,25 +6,25 @@ use Rattle.fbc_levels.specs.Waits.{waits_for_number}
 use Rattle.fbc_owner_queues.specs.Living.{has, living_owners}
 use Rattle.fbc_owner_queues.specs.Search.{leaving, searched}
 
--- the least of these
+-- The least of these.
 abbrev pub least_of : ℕ → List ℕ → ℕ
 least_of owner others = fold min owner others
 
--- how many stand before the least
+-- How many stand before the least.
 abbrev pub before_least : ℕ → List ℕ → ℕ
 before_least owner others = length (take_while (nat_lt (least_of owner others)) (owner ∷ others))
 
--- the circle with its least owner first
+-- The circle with its least owner first.
 abbrev pub least_first : ℕ → List ℕ → List ℕ
 least_first owner others =
     drop (before_least owner others) (owner ∷ others) ++ take (before_least owner others) (owner ∷ others)
 
--- the circle of the path that was found
+-- The circle of the path that was found.
 abbrev pub circle_of : ℕ → Result (List ℕ) (List ℕ) → Option (List ℕ)
 circle_of owner (Ok path) = Some (least_first owner path)
 circle_of owner (Err free) = None
 
--- the circle that the search from this owner, which lives, finds when all others are free
+-- The circle that the search from this owner, which lives, finds when all others are free.
 abbrev pub circle_from : LockState → ℕ → Option (List ℕ)
 circle_from s owner =
     if has (living_owners s) owner

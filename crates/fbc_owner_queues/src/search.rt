@@ -92,7 +92,9 @@ impl Search<'_> {
     #[cycle(search)]
     pub fn from(&self, owner: u32, depth: usize, free: &mut Owners, path: &mut Owners) -> bool
         requires { array_vec_len path.old + array_vec_len free.old ≤ 8 }
-        ensures leaves { Leaves (searched (waits_for_number self.now.table.now) self.now.living.now self.now.goal depth owner free.old.items) result path.old.items path.new.items free.new.items }
+        ensures leaves { Leaves
+            (searched (waits_for_number self.now.table.now) self.now.living.now self.now.goal depth owner free.old.items)
+            result path.old.items path.new.items free.new.items }
         ensures room { array_vec_len path.new + array_vec_len free.new ≤ array_vec_len path.old + array_vec_len free.old }
     {
         if depth == 0 {
@@ -117,7 +119,10 @@ impl Search<'_> {
         path: &mut Owners,
     ) -> bool
         requires { array_vec_len path.old + array_vec_len free.old ≤ 8 }
-        ensures leaves { Leaves (stepped (waits_for_number self.now.table.now owner) self.now.goal (searched (waits_for_number self.now.table.now) self.now.living.now self.now.goal depth) next free.old.items) result path.old.items path.new.items free.new.items }
+        ensures leaves { Leaves
+            (stepped (waits_for_number self.now.table.now owner) self.now.goal
+            (searched (waits_for_number self.now.table.now) self.now.living.now self.now.goal depth) next free.old.items)
+            result path.old.items path.new.items free.new.items }
         ensures room { array_vec_len path.new + array_vec_len free.new ≤ array_vec_len path.old + array_vec_len free.old }
     {
         if !self.table.waits_for_number(owner, next) {
@@ -133,7 +138,9 @@ impl Search<'_> {
     #[cycle(search)]
     fn enter(&self, owner: u32, depth: usize, free: &mut Owners, path: &mut Owners) -> bool
         requires { array_vec_len path.old + array_vec_len free.old ≤ 8 }
-        ensures leaves { Leaves (entered (searched (waits_for_number self.now.table.now) self.now.living.now self.now.goal depth) owner free.old.items) result path.old.items path.new.items free.new.items }
+        ensures leaves { Leaves
+            (entered (searched (waits_for_number self.now.table.now) self.now.living.now self.now.goal depth) owner free.old.items)
+            result path.old.items path.new.items free.new.items }
         ensures room { array_vec_len path.new + array_vec_len free.new ≤ array_vec_len path.old + array_vec_len free.old }
     {
         if !has_owner(free.as_slice(), owner) {

@@ -13,11 +13,11 @@ use Rattle.fbc_kinds.proofs.Pieces.{range_in, same_front-shorter}
 use Rattle.fbc_pages.specs.HeadBytes.{mark_bytes, count_bytes, limit_bytes}
 use Rattle.fbc_pages.proofs.Writes.{part_before}
 
--- how long a padded text is
+-- How long a padded text is.
 length-padded : (width : ℕ) (text : List ℕ) → length text ≤ width → length (padded width text) ≡ width
 length-padded width text fits = omega (arith, length-append text (replicate (width - length text) 0), length-replicate {A = ℕ} (width - length text) 0)
 
--- an entry whose three parts were written spells its relation
+-- An entry whose three parts were written spells its relation.
 pub SpellsRelation-laid : (relation : Relation) (old name limits entry : List ℕ) → length old ≡ 36 → length relation.name ≤ 15 → name ≡ length relation.name ∷ padded 15 relation.name → limits ≡ limit_bytes relation → take 20 entry ≡ take 20 (put_mid 16 4 (name ++ drop 16 old) limits) → ((i : ℕ) → i < 4 → slice_range entry (20 + 4 * i) (20 + 4 * i + 4) ≡ little_bytes 4 (slice_index relation.pointers i)) → SpellsRelation relation entry
 SpellsRelation-laid relation old name limits entry count short named limited same pointers =
     let wide : length name ≡ 16 = ap length named ∙ omega (arith, length-padded 15 relation.name short) in
@@ -37,25 +37,25 @@ SpellsRelation-laid relation old name limits entry count short named limited sam
       pointers = pointers;
     }
 
--- what was written into an entry's place stands there
+-- What was written into an entry's place stands there.
 pub SpellsEntry-put : (slot : Option Relation) (at k : ℕ) (old entry : List ℕ) → at + 36 ≤ length old → length entry ≡ at + 36 - at → SpellsEntry slot entry → SpellsEntry slot (slice_range (put_mid at k old entry) at (at + 36))
 SpellsEntry-put slot at k old entry fits count is =
     let inside : at ≤ length old = omega arith in
     rw (between-put_mid at k old entry (at + 36) inside count) is
 
--- bytes with a part written in them are as long as before
+-- Bytes with a part written in them are as long as before.
 long_enough : (at k : ℕ) (old part : List ℕ) → length part ≡ k → at + k ≤ length old → at + k ≤ length (put_mid at k old part)
 long_enough at k old part count fits =
     omega (arith, length-append (take at old) (part ++ drop k (drop at old)), length-append part (drop k (drop at old)), length-take at old)
 
--- where the part written fills the end, it is the end
+-- Where the part written fills the end, it is the end.
 ends_in : (at k : ℕ) (old part : List ℕ) → at ≤ length old → length (put_mid at k old part) ≡ at + length part → drop at (put_mid at k old part) ≡ part
 ends_in at k old part inside count =
     let front : length (take at old) ≡ at = length-take-le at old inside in
     let nothing : drop k (drop at old) ≡ [] = nil_from_length (drop k (drop at old)) (omega (arith, length-append (take at old) (part ++ drop k (drop at old)), length-append part (drop k (drop at old)))) in
     drop_at (take at old) (part ++ drop k (drop at old)) at front ∙ ap (λ (x : List ℕ). part ++ x) nothing ∙ append-nil part
 
--- a header whose parts were written one after the other is spelled
+-- A header whose parts were written one after the other is spelled.
 pub SpellsHeader-laid : (size k : ℕ) (header : Header) (head marks counts entries tips zeros : List ℕ) → IsHeader size header → 400 ≤ size → length head ≡ size → length entries ≡ size → length tips ≡ size → HasHead 1 0 0 0 head → marks ≡ mark_bytes header.size → counts ≡ count_bytes header → take 48 entries ≡ take 48 (put_mid 32 16 (put_mid 16 16 head marks) counts) → ((i : ℕ) → i < 8 → SpellsEntry (slice_get header.relations i) (entry_at entries i)) → take 336 tips ≡ take 336 entries → ((i : ℕ) → i < 16 → slice_range tips (336 + 4 * i) (336 + 4 * i + 4) ≡ little_bytes 4 (slice_index header.tips i)) → zeros ≡ replicate (size - 400) 0 → k ≡ size - 400 → SpellsHeader size header (put_mid 400 k tips zeros)
 SpellsHeader-laid size k header head marks counts entries tips zeros fits enough lh le lt has marked counted front each early tipped zeroed fills =
     let bytes = put_mid 400 k tips zeros in

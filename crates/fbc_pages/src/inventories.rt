@@ -4,7 +4,7 @@ ghost use Rattle.std.specs.Prelude.{◌≡◌, ◌+◌, ◌*◌, ◌-◌, ◌/�
 ghost use Rattle.fbc_kinds.specs.Head.{Gives, GivesRule, sequence_in};
 ghost use Rattle.fbc_kinds.specs.Limits.{IsPageSize};
 ghost use Rattle.fbc_pages.specs.Parts.{four_marks, marks_of};
-ghost use Rattle.fbc_kinds.specs.InventorySpelling.{broken_inventory, broken_marks, hides_header, hides_itself, is_taken, IsInventory, SpellsInventory, bit_at, marks_byte};
+ghost use Rattle.fbc_kinds.specs.InventorySpelling.{broken_inventory, broken_marks, hides_header, hides_itself, is_bit_set, IsInventory, SpellsInventory, bit_at, marks_byte};
 
 use crate::head::{read_head, write_head};
 use fbc_kinds::{Inventory, Listed, PageFault, Rule};
@@ -55,7 +55,7 @@ fn hides_itself(size: u32, page: u32, sequence: u32, bytes: &[u8]) -> bool
     ensures { result ≡ hides_itself size page bytes.now }
 {
     let covered = (size - 16) * 8;
-    page / covered == sequence && !is_taken(bytes, (page % covered) as usize)
+    page / covered == sequence && !is_bit_set(bytes, (page % covered) as usize)
 }
 
 fn hides_header(sequence: u32, bytes: &[u8]) -> bool
@@ -63,12 +63,12 @@ fn hides_header(sequence: u32, bytes: &[u8]) -> bool
     requires sequence { sequence ≡ sequence_in bytes.now }
     ensures { result ≡ hides_header bytes.now }
 {
-    sequence == 0 && !is_taken(bytes, 0)
+    sequence == 0 && !is_bit_set(bytes, 0)
 }
 
-fn is_taken(bytes: &[u8], i: usize) -> bool
+fn is_bit_set(bytes: &[u8], i: usize) -> bool
     requires { 16 + i / 8 < length bytes.now }
-    ensures { result ≡ is_taken bytes.now i }
+    ensures { result ≡ is_bit_set bytes.now i }
 {
     (bytes[16 + i / 8] >> (i % 8)) % 2 == 1
 }

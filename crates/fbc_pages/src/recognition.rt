@@ -3,7 +3,7 @@
 ghost use Rattle.std.specs.Prelude.{◌≡◌, ◌+◌, ◌*◌, ◌≤◌, ◌<◌, ℕ, List, None, Some, min, length as length_of, slice_get, IfOk};
 ghost use Rattle.fbc_kinds.specs.Head.{GivesRule, broken_head};
 ghost use Rattle.fbc_kinds.specs.Limits.{IsPageSize, file_pages, is_page_size};
-ghost use Rattle.fbc_kinds.specs.HeaderSpelling.{IsShape, ShowsShape, as_recognised, broken_content, broken_file, broken_length, broken_beginning, entry_at, name_in, page_size_in, value_length_in};
+ghost use Rattle.fbc_kinds.specs.HeaderSpelling.{IsFileShape, ShowsShape, as_recognised, broken_content, broken_file, broken_length, broken_beginning, entry_at, name_in, page_size_in, value_length_in};
 
 use crate::content::{check_content, check_front, entry_at, name_in, relation_count};
 use crate::head::read_head;
@@ -18,7 +18,7 @@ pub fn recognise(first: &[u8], length: u64, reach: u64) -> Result<Shape, Rule>
     requires reach { length ≤ reach }
     ensures exact { GivesRule result (broken_file first.now length) }
     ensures shape { IfOk result (ShowsShape first.now reach) }
-    ensures limits { IfOk result IsShape }
+    ensures limits { IfOk result IsFileShape }
 {
     if length < 1024 {
         return Err(Rule::Short);
@@ -78,7 +78,7 @@ fn shown_shape(first: &[u8], reach: u64) -> Shape
     requires size { IsPageSize (page_size_in first.now) }
     requires unbroken { broken_content (page_size_in first.now) first.now ≡ None }
     ensures shape { ShowsShape first.now reach result }
-    ensures limits { IsShape result }
+    ensures limits { IsFileShape result }
 {
     let size = read_u32(first, 24);
     Shape {

@@ -5,7 +5,7 @@ ghost use Rattle.std.specs.List.{list_any};
 ghost use Rattle.fbc_kinds.specs.Head.{Gives, GivesRule, sequence_in};
 ghost use Rattle.fbc_kinds.specs.Limits.{IsPageSize};
 ghost use Rattle.fbc_pages.specs.Parts.{states_of};
-ghost use Rattle.fbc_kinds.specs.TipSpelling.{broken_states, broken_tip, byte_has_limbo, has_bad_state, has_bad_zero, state_of, IsTip, SpellsTip, state_code, code_at, states_byte};
+ghost use Rattle.fbc_kinds.specs.TipSpelling.{broken_states, broken_tip, byte_has_limbo, has_bad_state, has_bad_zero, state_of_code, IsTip, SpellsTip, state_code, code_at, states_byte};
 
 use crate::head::{read_head, write_head};
 use fbc_kinds::{Listed, PageFault, Rule, State, Tip};
@@ -91,15 +91,15 @@ fn read_states(alloc: Global, bytes: &[u8]) -> Result<Vec<State>, AllocError>
 fn push_states(states: &mut Vec<State>, byte: u8) -> Result<(), AllocError>
     ensures { OnOk result (states.new.items ≡ states.old.items ++ states_of byte) }
 {
-    states.push(state_of(byte % 4))?;
-    states.push(state_of(byte / 4 % 4))?;
-    states.push(state_of(byte / 16 % 4))?;
-    states.push(state_of(byte / 64 % 4))?;
+    states.push(state_of_code(byte % 4))?;
+    states.push(state_of_code(byte / 4 % 4))?;
+    states.push(state_of_code(byte / 16 % 4))?;
+    states.push(state_of_code(byte / 64 % 4))?;
     Ok(())
 }
 
-fn state_of(code: u8) -> State
-    ensures { result ≡ state_of code }
+fn state_of_code(code: u8) -> State
+    ensures { result ≡ state_of_code code }
 {
     match code {
         0 => State::Active,

@@ -2,7 +2,7 @@
 use Rattle.std.proofs.Common.{◌≡◌, ℕ, ◌+◌, ◌≤◌, Bool, true, false, not, ◌||◌, ◌&&◌, cond, if◌then◌else◌, List, [], ◌∷◌, length, refl, arith}
 use Rattle.std.specs.List.{filter, list_any}
 
--- how many do not pass
+-- How many do not pass.
 abbrev pub left : {X : Type 0} → (X → Bool) → List X → ℕ
 left test [] = 0
 left test (x ∷ xs) = if test x then left test xs else 1 + left test xs
@@ -14,7 +14,7 @@ left-most test (x ∷ xs) = step (test x) (left-most test xs) where
   step true rest = omega (arith, rest)
   step false rest = omega (arith, rest)
 
--- where all that passed pass on, no more are left
+-- Where all that passed pass on, no more are left.
 pub left-more : {X : Type 0} (old new : X → Bool) → ((x : X) → old x ≡ true → new x ≡ true) → (xs : List X) → left new xs ≤ left old xs
 left-more old new keeps [] = omega arith
 left-more old new keeps (x ∷ xs) = step (old x) (new x) (keeps x) (left-more old new keeps xs) where
@@ -24,7 +24,7 @@ left-more old new keeps (x ∷ xs) = step (old x) (new x) (keeps x) (left-more o
   step false true keep rest = omega (arith, rest)
   step false false keep rest = omega (arith, rest)
 
--- where one passes now that did not, fewer are left
+-- Where one passes now that did not, fewer are left.
 pub left-less : {X : Type 0} (old new : X → Bool) → ((x : X) → old x ≡ true → new x ≡ true) → (xs : List X) → list_any (λ x. not (old x) && new x) xs ≡ true → left new xs + 1 ≤ left old xs
 left-less old new keeps [] some = absurd (cc)
 left-less old new keeps (x ∷ xs) some = step (old x) (new x) (keeps x) some (left-less old new keeps xs) (left-more old new keeps xs) where
@@ -34,7 +34,7 @@ left-less old new keeps (x ∷ xs) some = step (old x) (new x) (keeps x) some (l
   step false true keep some' rest most = omega (arith, most)
   step false false keep some' rest most = omega (arith, rest some')
 
--- what passes one test passes the other
+-- What passes one test passes the other.
 pub any-weaker : {X : Type 0} (p q : X → Bool) → ((x : X) → p x ≡ true → q x ≡ true) → (xs : List X) → list_any p xs ≡ true → list_any q xs ≡ true
 any-weaker p q gives [] some = absurd (cc)
 any-weaker p q gives (x ∷ xs) some = step (p x) (q x) (gives x) some (any-weaker p q gives xs) where
@@ -43,7 +43,7 @@ any-weaker p q gives (x ∷ xs) some = step (p x) (q x) (gives x) some (any-weak
   step true false give some' rest = absurd (let wrong : false ≡ true = give refl in cc)
   step false false give some' rest = rest some'
 
--- what some of a part pass, some of the whole pass
+-- What some of a part pass, some of the whole pass.
 pub any-filtered : {X : Type 0} (p test : X → Bool) (xs : List X) → list_any test (filter p xs) ≡ true → list_any test xs ≡ true
 any-filtered p test [] some = absurd (cc)
 any-filtered p test (x ∷ xs) some = step (p x) some (any-filtered p test xs) where

@@ -4,7 +4,8 @@ use Rattle.std.specs.List.{filter, list_any}
 use Rattle.std.proofs.lemmas.List.{length_push}
 use Rattle.fbc_kinds.specs.declared.edges.Edge.{Edge}
 use Rattle.fbc_precedence.specs.Pages.{pages_of}
-use Rattle.fbc_precedence.specs.Precedence.{pair_of, is_pair, StandsBefore, straight, is_without, HasRoom, IsBlocked}
+use Rattle.fbc_kinds.specs.Order.{straight}
+use Rattle.fbc_precedence.specs.Precedence.{pair_of, is_pair, ComesBefore, is_without, HasRoom, IsBlocked}
 use Rattle.fbc_precedence.specs.Room.{is_linked, AreOnce, IsGraph}
 use Rattle.fbc_precedence.specs.Search.{is_blocked}
 use Rattle.fbc_precedence.proofs.Counting.{any-filtered}
@@ -12,24 +13,24 @@ use Rattle.fbc_precedence.proofs.Paths.{leads-on, joined, path-blocks, blocked-b
 use Rattle.fbc_precedence.proofs.Standing.{among-pages, among-filtered, pages-few}
 use Rattle.fbc_precedence.proofs.Linked.{links, links-few, pairs-few, once-more, once-filtered}
 
--- of two pages one at most stands before the other
-pub one-way : (pairs : List Edge) → ((page : ℕ) → StandsBefore pairs page page → ⊥) → (high low : ℕ) → StandsBefore pairs high low → StandsBefore pairs low high → ⊥
+-- Of two pages one at most stands before the other.
+pub one-way : (pairs : List Edge) → ((page : ℕ) → ComesBefore pairs page page → ⊥) → (high low : ℕ) → ComesBefore pairs high low → ComesBefore pairs low high → ⊥
 one-way pairs acyclic high low down up = acyclic high (joined pairs high low high down up)
 
 pub blocked-tells : (pairs : List Edge) (page : ℕ) (b : Bool) → b ≡ is_blocked pairs page → IsTrue b ↔ IsBlocked pairs page
 blocked-tells pairs page b is = (λ yes. blocked-by pairs page (sym is ∙ yes), λ some. is ∙ path-blocks pairs some.0 page some.1)
 
--- the pairs of pages that do not stand before each other are not there
-not-linked : (pairs : List Edge) (high low : ℕ) → (StandsBefore pairs high low → ⊥) → (StandsBefore pairs low high → ⊥) → is_linked pairs high low ≡ false
+-- The pairs of pages that do not stand before each other are not there.
+not-linked : (pairs : List Edge) (high low : ℕ) → (ComesBefore pairs high low → ⊥) → (ComesBefore pairs low high → ⊥) → is_linked pairs high low ≡ false
 not-linked pairs high low not_down not_up = step (list_any (is_pair high low) pairs) (list_any (is_pair low high) pairs) (λ is. not_down (straight high low is)) (λ is. not_up (straight low high is)) where
   step : (a b : Bool) → (a ≡ true → ⊥) → (b ≡ true → ⊥) → (a || b) ≡ false
   step true b down up = absurd (down refl)
   step false true down up = absurd (up refl)
   step false false down up = refl
 
--- where the test says no, there is no path
-pub told-not : (shown pairs : List Edge) → shown ≡ pairs → (high low : ℕ) (b : Bool) → (IsTrue b ↔ StandsBefore shown high low) → b ≡ false → StandsBefore pairs high low → ⊥
-told-not shown pairs same high low b tells says path = absurd (let yes : b ≡ true = tells.1 (subst (λ es. StandsBefore es high low) (sym same) path) in cc)
+-- Where the test says no, there is no path.
+pub told-not : (shown pairs : List Edge) → shown ≡ pairs → (high low : ℕ) (b : Bool) → (IsTrue b ↔ ComesBefore shown high low) → b ≡ false → ComesBefore pairs high low → ⊥
+told-not shown pairs same high low b tells says path = absurd (let yes : b ≡ true = tells.1 (subst (λ es. ComesBefore es high low) (sym same) path) in cc)
 
 squares : (n m : ℕ) → n ≤ m → n * n ≤ m * m
 squares n m less = grind (arith, less)
@@ -38,7 +39,7 @@ halves : (n m : ℕ) → 2 * n ≤ m → n ≤ m / 2
 halves n m less = omega (arith, less)
 
 module _ (buffers : ℕ) (pairs : List Edge) (capacity : ℕ) (g : IsGraph buffers pairs capacity) where
-  -- without the pairs of a page
+  -- Without the pairs of a page.
   graph-cleared : (page : ℕ) → IsGraph buffers (filter (is_without page) pairs) capacity
   graph-cleared page = record {
     order = record {
@@ -53,8 +54,8 @@ module _ (buffers : ℕ) (pairs : List Edge) (capacity : ℕ) (g : IsGraph buffe
   pub graph-without : (page : ℕ) (rest : List Edge) (room : ℕ) → rest ≡ filter (is_without page) pairs → room ≡ capacity → IsGraph buffers rest room
   graph-without page rest room are same = rw (are, same) (graph-cleared page)
 
-  -- with one more pair
-  module _ (high low : ℕ) (differ : high ≢ low) (room : HasRoom (record { buffers = buffers; pairs = pairs }) high low) (not_down : StandsBefore pairs high low → ⊥) (not_up : StandsBefore pairs low high → ⊥) where
+  -- With one more pair.
+  module _ (high low : ℕ) (differ : high ≢ low) (room : HasRoom (record { buffers = buffers; pairs = pairs }) high low) (not_down : ComesBefore pairs high low → ⊥) (not_up : ComesBefore pairs low high → ⊥) where
     once : AreOnce (pairs ++ pair_of high low ∷ [])
     once = once-more pairs high low g.once differ (not-linked pairs high low not_down not_up)
 

@@ -6,11 +6,11 @@ use Rattle.fbc_precedence.specs.Pages.{has}
 use Rattle.fbc_precedence.specs.Search.{is_blocked, AllBlocked, IsLeastFree, lesser}
 use Rattle.fbc_precedence.proofs.Standing.{has-push, kept-by-push, there-by-push}
 
--- what is known of the pages so far
+-- What is known of the pages so far.
 abbrev pub IsLeastSoFar : List Edge → List ℕ → Option ℕ → Type 0
 IsLeastSoFar pairs found least = MatchOption least (AllBlocked pairs found) (IsLeastFree pairs found)
 
--- a page of the list with one more is of the list or is that one
+-- A page of the list with one more is of the list or is that one.
 one-of : (found : List ℕ) (page other : ℕ) (Goal : Type 0) → (has found other ≡ true → Goal) → (page ≡ other → Goal) → has (found ++ page ∷ []) other ≡ true → Goal
 one-of found page other Goal old new is = step (has found other) refl (sym (has-push found page other) ∙ is) where
   step : (b : Bool) → has found other ≡ b → (b || ((page == other) || false)) ≡ true → Goal

@@ -12,7 +12,7 @@ use Rattle.fbc_precedence.proofs.Counting.{left, left-most, left-less, any-weake
 use Rattle.fbc_precedence.proofs.Pairs.{same-pair, is-itself}
 use Rattle.fbc_precedence.proofs.Standing.{IsAmong}
 
--- the pairs of two places of the list, each one way round
+-- The pairs of two places of the list, each one way round.
 abbrev pub links : List ℕ → List Edge
 links [] = []
 links (page ∷ pages) = map (pair_of page) pages ++ links pages
@@ -23,7 +23,7 @@ links-few (page ∷ pages) =
     let here : length (links (page ∷ pages)) ≡ length pages + length (links pages) = length-append (map (pair_of page) pages) (links pages) ∙ ap (λ n. n + length (links pages)) (length-map pages (pair_of page)) in
     grind (arith, here, links-few pages)
 
--- a page and another of the list are linked
+-- A page and another of the list are linked.
 to-others : (page other : ℕ) (pages : List ℕ) → has pages other ≡ true → list_any (is_pair page other) (map (pair_of page) pages) ≡ true
 to-others page other [] there = absurd (cc)
 to-others page other (p ∷ pages) there = step (p == other) there (to-others page other pages) where
@@ -54,7 +54,7 @@ links-all (page ∷ pages) high low differ h l = linked-here (map (pair_of page)
       grind (arith, found)
   step false is false also h' l' rest = grind (arith, rest h' l')
 
--- pairs that stand once link so many places of the list
+-- Pairs that stand once link so many places of the list.
 fits : (pages : List ℕ) (pairs : List Edge) → AreOnce pairs → AllByRecursion (IsAmong pages) pairs → length pairs + left (λ e. is_linked pairs e.high e.low) (links pages) ≤ length (links pages)
 fits pages [] once among = omega (arith, left-most (λ (e : Edge). is_linked [] e.high e.low) (links pages))
 fits pages (pair ∷ pairs) once among =
@@ -77,7 +77,7 @@ fits pages (pair ∷ pairs) once among =
 pub pairs-few : (pages : List ℕ) (pairs : List Edge) → AreOnce pairs → AllByRecursion (IsAmong pages) pairs → length pairs ≤ length (links pages)
 pairs-few pages pairs once among = omega (arith, fits pages pairs once among)
 
--- one more pair that is not linked stands once
+-- One more pair that is not linked stands once.
 pub once-more : (pairs : List Edge) (high low : ℕ) → AreOnce pairs → high ≢ low → is_linked pairs high low ≡ false → AreOnce (pairs ++ pair_of high low ∷ [])
 once-more [] high low once differ new = (differ, refl, tt)
 once-more (pair ∷ pairs) high low once differ new =

@@ -16,11 +16,11 @@ same-pair pair high low is =
 pub is-itself : (high low : ℕ) → is_pair high low (pair_of high low) ≡ true
 is-itself high low = grind (arith, nat_tests)
 
--- a test that the pair passes is passed where it is recorded
+-- A test that the pair passes is passed where it is recorded.
 pub pair-passes : (test : Edge → Bool) (pairs : List Edge) (high low : ℕ) → IsPair pairs high low → test (pair_of high low) ≡ true → list_any test pairs ≡ true
 pair-passes test pairs high low is passes = any-weaker (is_pair high low) test (λ pair same. ap test (same-pair pair high low same) ∙ passes) pairs is
 
--- the pages of a pair that passes
+-- The pages of a pair that passes.
 pub record Passing (test : Edge → Bool) (pairs : List Edge) : Type 0 where
   pub high : ℕ
   pub low : ℕ
@@ -39,7 +39,7 @@ passing test (pair ∷ pairs) some = step (test pair) refl some (passing test pa
         or-true true b is = refl
         or-true false b is = is
 
--- a pair of the list with one more is of the list or is that one
+-- A pair of the list with one more is of the list or is that one.
 pub pair-of-more : (pairs : List Edge) (high low above below : ℕ) → IsPair (pairs ++ pair_of high low ∷ []) above below → IsPair pairs above below ⊎ ((above ≡ high) × (below ≡ low))
 pair-of-more pairs high low above below is = step (list_any (is_pair above below) pairs) refl (sym (list_any-append (is_pair above below) pairs (pair_of high low ∷ [])) ∙ is) where
   step : (b : Bool) → list_any (is_pair above below) pairs ≡ b → (b || (((high == above) && (low == below)) || false)) ≡ true → IsPair pairs above below ⊎ ((above ≡ high) × (below ≡ low))

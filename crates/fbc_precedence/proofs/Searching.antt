@@ -5,13 +5,14 @@ use Rattle.std.proofs.lemmas.Bool.Decides.{nat_tests}
 use Rattle.std.proofs.lemmas.List.{length_push}
 use Rattle.fbc_kinds.specs.declared.edges.Edge.{Edge}
 use Rattle.fbc_precedence.specs.Pages.{has, pages_of}
-use Rattle.fbc_precedence.specs.Precedence.{pair_of, IsPair, StandsBefore, straight, through, IsAtOrBefore}
+use Rattle.fbc_kinds.specs.Order.{straight, through}
+use Rattle.fbc_precedence.specs.Precedence.{pair_of, IsPair, ComesBefore, IsAtOrBefore}
 use Rattle.fbc_precedence.specs.Search.{leads_into, IsClosed, LeadsInto}
 use Rattle.fbc_precedence.proofs.Counting.{left, left-most}
 use Rattle.fbc_precedence.proofs.Pairs.{pair-passes}
 use Rattle.fbc_precedence.proofs.Standing.{has-push, kept-by-push, left-by-push, among-pages, among-pair}
 
--- what is found so far: the page, and else only pages before it; the rest is left to be found
+-- What is found so far: the page, and else only pages before it; the rest is left to be found.
 pub record IsFoundFor (pairs : List Edge) (page : ℕ) (found : List ℕ) : Type 0 where
   pub itself : has found page ≡ true
   pub before : (other : ℕ) → has found other ≡ true → IsAtOrBefore pairs other page
@@ -29,9 +30,9 @@ found-first pairs page = record {
     step true is = omega (arith, left-most (has (page ∷ [])) (pages_of pairs))
     step false is = absurd (cc)
 
--- a page that leads to one of them is before the page too
+-- A page that leads to one of them is before the page too.
 leads-to : (pairs : List Edge) (page high low : ℕ) → IsPair pairs high low → IsAtOrBefore pairs low page → IsAtOrBefore pairs high page
-leads-to pairs page high low is (inl same) = inr (subst (StandsBefore pairs high) same (straight high low is))
+leads-to pairs page high low is (inl same) = inr (subst (ComesBefore pairs high) same (straight high low is))
 leads-to pairs page high low is (inr path) = inr (through high low page is path)
 
 pub found-more : (pairs : List Edge) (page : ℕ) (found : List ℕ) (high : ℕ) → IsFoundFor pairs page found → LeadsInto pairs found high → IsFoundFor pairs page (found ++ high ∷ [])
@@ -49,7 +50,7 @@ found-more pairs page found high f into = record {
       let same : high ≡ other = grind (arith, nat_tests, is) in
       subst (λ p. IsAtOrBefore pairs p page) same (leads-to pairs page high into.low into.pair (f.before into.low into.inside))
 
--- where no pair leads into them from outside, all are found
+-- Where no pair leads into them from outside, all are found.
 closed-pair : (pairs : List Edge) (found : List ℕ) (high low : ℕ) → IsClosed pairs found → IsPair pairs high low → has found low ≡ true → has found high ≡ true
 closed-pair pairs found high low closed is there = step (has found high) refl where
   step : (b : Bool) → has found high ≡ b → b ≡ true
@@ -59,7 +60,7 @@ closed-pair pairs found high low closed is there = step (has found high) refl wh
       let some : list_any (leads_into found) pairs ≡ true = pair-passes (leads_into found) pairs high low is passes in
       cc)
 
-closed-path : (pairs : List Edge) (found : List ℕ) (high low : ℕ) → IsClosed pairs found → has found low ≡ true → StandsBefore pairs high low → has found high ≡ true
+closed-path : (pairs : List Edge) (found : List ℕ) (high low : ℕ) → IsClosed pairs found → has found low ≡ true → ComesBefore pairs high low → has found high ≡ true
 closed-path pairs found _ _ closed there (straight high low is) = closed-pair pairs found high low closed is there
 closed-path pairs found _ _ closed there (through high between low is rest) = closed-pair pairs found high between closed is (closed-path pairs found between low closed there rest)
 
@@ -67,7 +68,7 @@ pub found-all : (pairs : List Edge) (page : ℕ) (found : List ℕ) → IsFoundF
 found-all pairs page found f closed other (inl same) = rw same f.itself
 found-all pairs page found f closed other (inr path) = closed-path pairs found other page closed f.itself path
 
--- one page more is one less that may come
+-- One page more is one less that may come.
 pub found-fewer : (pairs : List Edge) (page : ℕ) (found more : List ℕ) (high : ℕ) → length (pages_of pairs) ≤ 512 → more ≡ found ++ high ∷ [] → IsFoundFor pairs page more → 513 - length more < 513 - length found
 found-fewer pairs page found more high few is f =
     let longer : length more ≡ length found + 1 = ap length is ∙ length_push found high in

@@ -11,11 +11,11 @@ use Rattle.fbc_precedence.specs.Precedence.{pair_of, is_pair, IsPair}
 use Rattle.fbc_precedence.proofs.Counting.{left, left-most, left-less, any-weaker}
 use Rattle.fbc_precedence.proofs.Pairs.{same-pair}
 
--- both pages are among these
+-- Both pages are among these.
 abbrev pub IsAmong : List ℕ → Edge → Type 0
 IsAmong pages pair = (has pages pair.high ≡ true) × (has pages pair.low ≡ true)
 
--- who stands in the list, with one more at its end
+-- Who stands in the list, with one more at its end.
 pub has-push : (pages : List ℕ) (page other : ℕ) → has (pages ++ page ∷ []) other ≡ (has pages other || ((page == other) || false))
 has-push pages page other = list_any-append (λ p. p == other) pages (page ∷ [])
 
@@ -25,7 +25,7 @@ kept-by-push pages page other there = has-push pages page other ∙ grind (arith
 pub there-by-push : (pages : List ℕ) (page : ℕ) → has (pages ++ page ∷ []) page ≡ true
 there-by-push pages page = has-push pages page page ∙ grind (arith, nat_tests)
 
--- one more of the census is one less that is left
+-- One more of the census is one less that is left.
 pub left-by-push : (census pages : List ℕ) (page : ℕ) → has census page ≡ true → has pages page ≡ false → left (has (pages ++ page ∷ [])) census + 1 ≤ left (has pages) census
 left-by-push census pages page of out = left-less (has pages) (has (pages ++ page ∷ [])) (kept-by-push pages page) census (any-weaker (λ p. p == page) (λ p. not (has pages p) && has (pages ++ page ∷ []) p) new census of) where
   new : (p : ℕ) → (p == page) ≡ true → (not (has pages p) && has (pages ++ page ∷ []) p) ≡ true
@@ -57,7 +57,7 @@ among-fold (pair ∷ pairs) pages =
     let low = kept-by-fold pairs (with_pages pages pair) pair.low (there-by-page (with_page pages pair.high) pair.low) in
     ((high, low), among-fold pairs (with_pages pages pair))
 
--- the pages of all pairs are among the pages of the pairs
+-- The pages of all pairs are among the pages of the pairs.
 pub among-pages : (pairs : List Edge) → AllByRecursion (IsAmong (pages_of pairs)) pairs
 among-pages pairs = among-fold pairs []
 
@@ -75,7 +75,7 @@ among-pair census (pair ∷ pairs) high low all is = step (is_pair high low pair
   step true same is' rest = subst (IsAmong census) (same-pair pair high low same) all.0
   step false other is' rest = rest is'
 
--- the pages of pairs are no more than a census of them
+-- The pages of pairs are no more than a census of them.
 page-fits : (census pages : List ℕ) (page : ℕ) → has census page ≡ true → length (with_page pages page) + left (has (with_page pages page)) census ≤ length pages + left (has pages) census
 page-fits census pages page of = step (has pages page) refl where
   step : (b : Bool) → has pages page ≡ b → length (if b then pages else pages ++ page ∷ []) + left (has (if b then pages else pages ++ page ∷ [])) census ≤ length pages + left (has pages) census
@@ -90,7 +90,7 @@ all-fit census (pair ∷ pairs) pages all =
 pub pages-few : (census : List ℕ) (pairs : List Edge) → AllByRecursion (IsAmong census) pairs → length (pages_of pairs) ≤ length census
 pages-few census pairs all = omega (arith, all-fit census pairs [] all, left-most (has []) census)
 
--- the pages of more pairs are no fewer
+-- The pages of more pairs are no fewer.
 length-with-page : (pages : List ℕ) (page : ℕ) → length pages ≤ length (with_page pages page)
 length-with-page pages page = step (has pages page) where
   step : (b : Bool) → length pages ≤ length (if b then pages else pages ++ page ∷ [])
@@ -102,7 +102,7 @@ length-fold [] pages = omega arith
 length-fold (pair ∷ pairs) pages =
     omega (arith, length-fold pairs (with_pages pages pair), length-with-page pages pair.high, length-with-page (with_page pages pair.high) pair.low)
 
--- the pages of the first pairs are no more than those of all
+-- The pages of the first pairs are no more than those of all.
 pub pages-of-first : (n : ℕ) (pairs : List Edge) → length (pages_of (take n pairs)) ≤ length (pages_of pairs)
 pages-of-first n pairs =
     let whole : pages_of pairs ≡ fold with_pages (pages_of (take n pairs)) (drop n pairs) = ap pages_of (sym (take-append-drop n pairs)) ∙ fold-append with_pages [] (take n pairs) (drop n pairs) in

@@ -5,6 +5,7 @@ use Rattle.fbc_kinds.specs.declared.edges.Edge.{Edge}
 use Rattle.fbc_precedence.specs.declared.related.Related.{Related}
 use Rattle.fbc_precedence.specs.declared.related.Related.TheVariants.{Recorded}
 use Rattle.fbc_precedence.specs.Pages.{pages_of}
+use Rattle.fbc_kinds.specs.Order.{StandsBefore}
 
 -- The pairs that are recorded, the oldest first, and how many pages may stand in them.
 pub record Precedence : Type 0 where
@@ -23,14 +24,13 @@ is_pair high low pair = (pair.high == high) && (pair.low == low)
 abbrev pub IsPair : List Edge → ℕ → ℕ → Type 0
 IsPair pairs high low = list_any (is_pair high low) pairs ≡ true
 
--- Pairs lead from the first page to the second.
-pub data StandsBefore (pairs : List Edge) : ℕ → ℕ → Type 0 where
-  straight : (high low : ℕ) → IsPair pairs high low → StandsBefore pairs high low
-  through : (high between low : ℕ) → IsPair pairs high between → StandsBefore pairs between low → StandsBefore pairs high low
+-- These pairs lead from the first page to the second.
+abbrev pub ComesBefore : List Edge → ℕ → ℕ → Type 0
+ComesBefore pairs = StandsBefore (IsPair pairs)
 
 -- Neither page stands before the other.
 abbrev pub AreUnrelated : List Edge → ℕ → ℕ → Type 0
-AreUnrelated pairs high low = (StandsBefore pairs high low → ⊥) × (StandsBefore pairs low high → ⊥)
+AreUnrelated pairs high low = (ComesBefore pairs high low → ⊥) × (ComesBefore pairs low high → ⊥)
 
 -- No more pages than there are buffers stand in the pairs with these two.
 abbrev pub HasRoom : Precedence → ℕ → ℕ → Type 0
@@ -38,7 +38,7 @@ HasRoom order high low = length (pages_of (order.pairs ++ pair_of high low ∷ [
 
 -- No page stands before itself, and no more pages stand in the pairs than there are buffers.
 pub record IsPrecedence (order : Precedence) : Type 0 where
-  pub acyclic : (page : ℕ) → StandsBefore order.pairs page page → ⊥
+  pub acyclic : (page : ℕ) → ComesBefore order.pairs page page → ⊥
   pub few : length (pages_of order.pairs) ≤ order.buffers
 
 -- What stands after the answer to a pair.
@@ -56,11 +56,11 @@ cleared order page = record order { pairs = filter (is_without page) order.pairs
 
 -- Some page stands before this one.
 abbrev pub IsBlocked : List Edge → ℕ → Type 0
-IsBlocked pairs page = (other : ℕ) × StandsBefore pairs other page
+IsBlocked pairs page = (other : ℕ) × ComesBefore pairs other page
 
 -- It is the page, or stands before it.
 abbrev pub IsAtOrBefore : List Edge → ℕ → ℕ → Type 0
-IsAtOrBefore pairs other page = (other ≡ page) ⊎ StandsBefore pairs other page
+IsAtOrBefore pairs other page = (other ≡ page) ⊎ ComesBefore pairs other page
 
 -- The page that is written next for this one: the least that no page stands before, among it and those before it.
 pub record IsNextToWrite (pairs : List Edge) (page next : ℕ) : Type 0 where

@@ -2,7 +2,7 @@
 
 ghost use Rattle.std.specs.Prelude.{◌≡◌, ◌↔◌, ◌≢◌, [], IsTrue, IfOk};
 ghost use Rattle.fbc_precedence.specs.declared.related.Related.TheVariants as answers;
-ghost use Rattle.fbc_precedence.specs.Precedence.{StandsBefore, AreUnrelated, IsBlocked, IsNextToWrite, IsPrecedence, HasRoom, after_relate, cleared};
+ghost use Rattle.fbc_precedence.specs.Precedence.{ComesBefore, AreUnrelated, IsBlocked, IsNextToWrite, IsPrecedence, HasRoom, after_relate, cleared};
 
 use crate::pages::{self, MOST_PAGES};
 use crate::related::Related;
@@ -58,8 +58,8 @@ impl Graph {
     pub fn relate(&mut self, high: u32, low: u32) -> Related
         requires differ { high ≢ low }
         requires room { HasRoom self.old high low }
-        ensures already { (result ≡ answers.Already) ↔ StandsBefore self.old.pairs high low }
-        ensures write_first { (result ≡ answers.WriteFirst low) ↔ StandsBefore self.old.pairs low high }
+        ensures already { (result ≡ answers.Already) ↔ ComesBefore self.old.pairs high low }
+        ensures write_first { (result ≡ answers.WriteFirst low) ↔ ComesBefore self.old.pairs low high }
         ensures recorded { (result ≡ answers.Recorded) ↔ AreUnrelated self.old.pairs high low }
         ensures after { self.new ≡ after_relate self.old high low result }
         ensures order { IsPrecedence self.new }

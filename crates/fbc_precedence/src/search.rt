@@ -3,7 +3,7 @@
 ghost use Rattle.std.specs.Prelude.{◌≡◌, ◌↔◌, ◌≢◌, ◌≤◌, ℕ, true, IsTrue, length, MatchOption};
 ghost use Rattle.fbc_precedence.specs.Pages as pages_spec;
 ghost use Rattle.fbc_precedence.specs.Pages.{has};
-ghost use Rattle.fbc_precedence.specs.Precedence.{StandsBefore, IsAtOrBefore, IsBlocked, IsNextToWrite};
+ghost use Rattle.fbc_precedence.specs.Precedence.{ComesBefore, IsAtOrBefore, IsBlocked, IsNextToWrite};
 ghost use Rattle.fbc_precedence.specs.Search as spec;
 
 use crate::pages::Pages;
@@ -13,7 +13,7 @@ use fbc_kinds::Edge;
 pub fn stands_before(pairs: &[Edge], high: u32, low: u32) -> bool
     requires room { length (pages_spec.pages_of pairs.now) ≤ 512 }
     requires differ { high ≢ low }
-    ensures { IsTrue result ↔ StandsBefore pairs.now high low }
+    ensures { IsTrue result ↔ ComesBefore pairs.now high low }
 {
     let pages = at_or_before(pairs, low);
     pages.as_slice().contains(&high)
@@ -54,7 +54,7 @@ fn leads_into(found: &[u32], pair: &Edge) -> bool
 /// The least page without a page before it, among this page and those that stand before it.
 pub fn next_to_write(pairs: &[Edge], page: u32) -> u32
     requires room { length (pages_spec.pages_of pairs.now) ≤ 512 }
-    requires acyclic { (other : ℕ) → StandsBefore pairs.now other other → ⊥ }
+    requires acyclic { (other : ℕ) → ComesBefore pairs.now other other → ⊥ }
     ensures { IsNextToWrite pairs.now page result }
 {
     let found = at_or_before(pairs, page);

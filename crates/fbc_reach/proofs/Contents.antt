@@ -17,7 +17,7 @@ use Rattle.fbc_reach.specs.Reading.{AreBytesOf}
 use Rattle.fbc_reach.specs.declared.content.PageRead.{PageRead}
 use Rattle.fbc_spelling.proofs.Shows.{shown_is, none_is_shown}
 
--- a pointer page that bytes show has all its slots
+-- A pointer page that bytes show has all its slots.
 full_of : (shape : Shape) (number : ℕ) (bytes : List ℕ) (page : Page) → ShowsPage shape number bytes page → HasAllSlots shape.size (content_of (Some page))
 full_of shape number bytes (kind.Pointer p) shows = shows.spelled.fits.count
 full_of shape number bytes (kind.Header h) shows = tt
@@ -50,7 +50,7 @@ module _ (shape : Shape) (number : ℕ) (bytes : List ℕ) (size : IsPageSize sh
         full = tt;
       }
 
--- what was read of the bytes of a device is what was read of the device
+-- What was read of the bytes of a device is what was read of the device.
 pub read_of : (shape : Shape) (number : ℕ) (told : Option (List ℕ)) (buffer : List ℕ) (read : PageRead)
     → AreBytesOf told shape.size number buffer → IsReadFrom shape number buffer read → IsReadOf shape number told read
 read_of shape number None buffer read are is = (buffer, is)

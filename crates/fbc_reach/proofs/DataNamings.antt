@@ -23,7 +23,7 @@ nonzero_named number page e = go (number == 0) refl e
     go true is e = cc
     go false is e = let same : number ≡ page = cc in (same, ap not (sym (ap (λ n. n == 0) same) ∙ is))
 
--- a slot that names a page has its number
+-- A slot that names a page has its number.
 slot_named : (o : Option Page) (slot page : ℕ) → named_in o slot ≡ Some page → (slice_get (slots_of o) slot ≡ Some page) × (not (page == 0) ≡ true)
 slot_named (Some (kind.Pointer p)) slot page e = go (slice_get p.slots slot) refl e
   where
@@ -48,7 +48,7 @@ named_slot (Some (kind.Tip t)) slot page e names = cc
 named_slot (Some (kind.Data d)) slot page e names = cc
 named_slot (Some kind.Blank) slot page e names = cc
 
--- a pointer page of the view has all its slots
+-- A pointer page of the view has all its slots.
 abbrev pub HaveAllSlots : View → Type 0
 HaveAllSlots view = (page : ℕ) (p : Pointer) → view page ≡ Some (kind.Pointer p) → length p.slots ≡ slots (size_of view)
 
@@ -61,7 +61,7 @@ slot_below count (Some (kind.Tip t)) slot page all e = cc
 slot_below count (Some (kind.Data d)) slot page all e = cc
 slot_below count (Some kind.Blank) slot page all e = cc
 
--- what a data naming stands on
+-- What a data naming stands on.
 pub record IsDataNaming (view : View) (n : Naming) : Type 0 where
   pub relation : ℕ
   pub sequence : ℕ

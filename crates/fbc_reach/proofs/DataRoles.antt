@@ -15,7 +15,7 @@ use Rattle.fbc_reach.proofs.Members.{In, in_either}
 use Rattle.fbc_reach.proofs.Searches.{find_agrees, find_fails}
 use Rattle.fbc_reach.proofs.Walks.{and_false, and_true, none_behind, none_later}
 
--- what a header names
+-- What a header names.
 abbrev pub fronts : View → List Naming
 fronts view = inventory_namings (header_of view) ++ tip_namings (header_of view) ++ pointer_namings (header_of view)
 
@@ -33,7 +33,7 @@ module _ (view : View) (h : Header) (is : header_of view ≡ Some h) (all : Have
   data_kind : (n : Naming) → In (data_namings view) n → (5 == kind_code n.role) ≡ true
   data_kind n i = ap (λ r. 5 == kind_code r) (data_reached view h is all n i).role_is
 
-  -- a data page is walked for the first role in which a pointer page names it
+  -- A data page is walked for the first role in which a pointer page names it.
   pub walked_as : (page : ℕ) → find (is_of_kind page 5) (namings view) ≡ find (is_of_page page) (data_namings view)
   walked_as page =
       ap (λ b. cond b (Some (naming 0 role.Header)) (find (is_of_kind page 5) (fronts view ++ data_namings view))) (and_false (0 == page))

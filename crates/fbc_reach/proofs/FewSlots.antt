@@ -71,7 +71,7 @@ few_named h is n i = go (in_either (inventory_namings (Some h) ++ tip_namings (S
         let below : found.sequence < pointer_limit = omega arith in
         subst HasFewPlaces (sym found.role_is) below
 
--- the namings of a header have few places
+-- The namings of a header have few places.
 pub few_places : (h : Header) → IsHeader h.size h → (named : List Naming) → named ≡ inventory_namings (Some h) ++ tip_namings (Some h) ++ pointer_namings (Some h)
     → (i : ℕ) (n : Naming) → slice_get named i ≡ Some n → HasFewPlaces n.role
 few_places h is named same i n e =

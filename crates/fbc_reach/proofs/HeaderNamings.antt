@@ -83,7 +83,7 @@ pointers_in number (x ∷ xs) n i = go (in_either (named_in_row (role.Pointer nu
           role_is = found.role_is ∙ ap (λ r. role.Pointer r found.sequence) next;
         }
 
--- with a header
+-- With a header.
 module _ (view : View) (h : Header) (is : header_of view ≡ Some h) where
   pub inventory_named : (s page : ℕ) → inventory_of view s ≡ Some page → In (inventory_namings (header_of view)) (naming page (role.Inventory s))
   inventory_named s page e = rw is (go (nat_lt s h.inventories) refl (sym (ap (option_and_then (λ (g : Header). if nat_lt s g.inventories then Some (inventory_page g.size s) else None)) is) ∙ e))

@@ -7,7 +7,7 @@ use Rattle.fbc_kinds.specs.declared.pages.Cell.{Cell}
 use Rattle.fbc_reach.specs.declared.namings.Role.{Role}
 use Rattle.fbc_reach.specs.declared.namings.Role.TheVariants as role
 use Rattle.fbc_reach.specs.Roles.{has_other_relation, has_other_sequence, is_late_in, is_late_version}
-use Rattle.fbc_reach.specs.Content.{content_of, version_of, differs_in_relation, differs_in_sequence, is_late, holds_late}
+use Rattle.fbc_reach.specs.Content.{content_of, version_kept, differs_in_relation, differs_in_sequence, is_late, holds_late}
 
 pub kept_relation : (named : Role) (o : Option Page) → differs_in_relation named (content_of o) ≡ has_other_relation named o
 kept_relation (role.Pointer r s) (Some (kind.Pointer p)) = refl
@@ -21,7 +21,7 @@ kept_sequence (role.Pointer r s) (Some (kind.Pointer p)) = refl
 kept_sequence (role.Data r s) (Some (kind.Data d)) = refl
 kept_sequence _ _ = refl
 
-late_versions : (next : ℕ) (cells : List Cell) → list_any (is_late next) (map version_of cells) ≡ list_any (is_late_version next) cells
+late_versions : (next : ℕ) (cells : List Cell) → list_any (is_late next) (map version_kept cells) ≡ list_any (is_late_version next) cells
 late_versions next [] = refl
 late_versions next (c ∷ cs) = ap (λ rest. is_late_version next c || rest) (late_versions next cs)
 

@@ -14,7 +14,7 @@ neither_right true b e = cc
 neither_right false b e = e
 
 module _ {X : Type 0} where
-  -- an item stands in a list
+  -- An item stands in a list.
   abbrev pub In : List X → X → Type 0
   In [] x = ⊥
   In (y ∷ ys) x = (y ≡ x) ⊎ In ys x
@@ -109,7 +109,7 @@ module _ {X Y : Type 0} (f : X → List Y) where
       go (inl l) later = (z, inl refl, l)
       go (inr r) later = let found = later r in (found.0, inr found.1, found.2)
 
--- a page at a place of a row is named in the role of its place, and no other naming stands in the row
+-- A page at a place of a row is named in the role of its place, and no other naming stands in the row.
 pub in_row : (role_of : ℕ → Role) (place : ℕ) (pages : List ℕ) (k page : ℕ) → slice_get pages k ≡ Some page → In (named_in_row role_of place pages) (naming page (role_of (place + k)))
 in_row role_of place [] k page e = cc
 in_row role_of place (p ∷ ps) zero page e =

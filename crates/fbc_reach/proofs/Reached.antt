@@ -18,18 +18,18 @@ use Rattle.fbc_reach.proofs.SameRoles.{own_role}
 use Rattle.fbc_reach.proofs.HeaderNamings.{inventory_named, tip_named, pointer_named, inventory_reached, tip_reached, pointer_reached}
 use Rattle.fbc_reach.proofs.DataNamings.{HaveAllSlots, IsDataNaming, data_named, data_reached}
 
--- a naming names a page in a role in which the view reaches it
+-- A naming names a page in a role in which the view reaches it.
 abbrev pub IsReached : View → Naming → Type 0
 IsReached view n = page_for view (reached_as n.role) ≡ Some n.page
 
--- namings of one page are in one role
+-- Namings of one page are in one role.
 abbrev pub AreSingle : View → Type 0
 AreSingle view = (n m : Naming) → In (namings view) n → In (namings view) m → n.page ≡ m.page → n.role ≡ m.role
 
 along_role : (view : View) (n : Naming) (named : Role) → n.role ≡ named → page_for view (reached_as named) ≡ Some n.page → IsReached view n
 along_role view n named e reached = ap (λ r. page_for view (reached_as r)) e ∙ reached
 
--- a naming of which the others of its page are in its role is the first
+-- A naming of which the others of its page are in its role is the first.
 pub first_of : (all : List Naming) (n : Naming) → In all n → ((m : Naming) → In all m → m.page ≡ n.page → n.role ≡ m.role) → is_first all n ≡ true
 first_of all n i same =
     let found = find_some (is_of_page n.page) all n i (test_of_same n.page n.page refl) in
@@ -60,7 +60,7 @@ module _ (view : View) where
   pub from_data : (n : Naming) → In (data_namings view) n → In (namings view) n
   from_data n i = inr (in_right (counted ++ states ++ pointers) (data_namings view) n i)
 
-  -- where a naming stands in the walk
+  -- Where a naming stands in the walk.
   pub data Stands (n : Naming) : Type 0 where
     as_header : naming 0 role.Header ≡ n → Stands n
     as_inventory : In counted n → Stands n
@@ -78,7 +78,7 @@ module _ (view : View) where
     ]
   ]
 
-  -- without a header the header's page alone is named
+  -- Without a header the header's page alone is named.
   none_named : (n : Naming) → header_of view ≡ None → Stands n → naming 0 role.Header ≡ n
   none_named n none (as_header e) = e
   none_named n none (as_inventory i) = absurd (let P : Option Header → Type 0 = λ o. In (inventory_namings o) n in subst P none i)
@@ -110,7 +110,7 @@ module _ (view : View) where
       go None none = header_reached n (none_named n none (stands_in n i))
       go (Some h) is = with_header h is (all h is) n (stands_in n i)
 
-  -- a pointer page that the view reaches is walked, where namings of one page are in one role
+  -- A pointer page that the view reaches is walked, where namings of one page are in one role.
   walked_pointer : AreSingle view → (relation sequence page : ℕ) → In pointers (naming page (role.Pointer relation sequence)) → is_first pointers (naming page (role.Pointer relation sequence)) ≡ true
   walked_pointer single relation sequence page i =
       first_of pointers (naming page (role.Pointer relation sequence)) i

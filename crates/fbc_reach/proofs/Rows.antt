@@ -13,7 +13,7 @@ row_push role_of place (p ∷ ps) page =
     ap (λ rest. naming p (role_of place) ∷ rest) (row_push role_of (suc place) ps page)
     ∙ ap (λ at. naming p (role_of place) ∷ (named_in_row role_of (suc place) ps ++ naming page (role_of at) ∷ [])) (let next : suc place + length ps ≡ place + length (p ∷ ps) = omega arith in next)
 
--- one page more behind other namings
+-- One page more behind other namings.
 pub row_more : (role_of : ℕ → Role) (before : List Naming) (pages : List ℕ) (page : ℕ)
     → (before ++ named_in_row role_of 0 pages) ++ naming page (role_of (length pages)) ∷ [] ≡ before ++ named_in_row role_of 0 (pages ++ page ∷ [])
 row_more role_of before pages page =
@@ -36,7 +36,7 @@ relations_push number (r ∷ rs) relation =
     ∙ sym (append_assoc (named_in_row (role.Pointer number) 0 r.pointers) (pointers_named (suc number) rs) (named_in_row (role.Pointer (suc number + length rs)) 0 relation.pointers))
     ∙ ap (λ at. pointers_named number (r ∷ rs) ++ named_in_row (role.Pointer at) 0 relation.pointers) (let next : suc number + length rs ≡ number + length (r ∷ rs) = omega arith in next)
 
--- one relation more behind other namings
+-- One relation more behind other namings.
 pub relations_more : (before : List Naming) (relations : List Relation) (relation : Relation)
     → (before ++ pointers_named 0 relations) ++ named_in_row (role.Pointer (length relations)) 0 relation.pointers ≡ before ++ pointers_named 0 (relations ++ relation ∷ [])
 relations_more before relations relation =
@@ -61,7 +61,7 @@ slot_push relation place slots page =
     ap (filter names_a_page) (row_push (role.Data relation) place slots page)
     ∙ filter_both (named_in_row (role.Data relation) place slots) (naming page (role.Data relation (place + length slots)) ∷ [])
 
--- a turn of each loop over a row
+-- A turn of each loop over a row.
 pub row_step : (role_of : ℕ → Role) (before now new : List Naming) (pages : List ℕ) (i : ℕ) → i < length pages
     → now ≡ before ++ named_in_row role_of 0 (take i pages)
     → new ≡ now ++ naming (get_or pages i 0) (role_of i) ∷ []

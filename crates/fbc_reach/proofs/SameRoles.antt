@@ -34,7 +34,7 @@ own_role (role.Tip a) = test_of_same a a refl
 own_role (role.Pointer r a) = both_true _ _ (test_of_same r r refl) (test_of_same a a refl)
 own_role (role.Data r a) = both_true _ _ (test_of_same r r refl) (test_of_same a a refl)
 
--- each role by which pages are reached is the same as one of these
+-- Each role by which pages are reached is the same as one of these.
 abbrev pub as_named : reach.Role → Role
 as_named reach.HeaderRole = role.Header
 as_named (reach.InventoryRole sequence) = role.Inventory sequence
@@ -56,7 +56,7 @@ as_named_reached (role.Tip sequence) = refl
 as_named_reached (role.Pointer relation sequence) = refl
 as_named_reached (role.Data relation sequence) = refl
 
--- a page of the role's kind, with its own number and of no other relation and sequence, has the role
+-- A page of the role's kind, with its own number and of no other relation and sequence, has the role.
 pub has_role_from : (named : Role) (number : ℕ) (page : Page) → code_of page ≡ kind_code named → stands_under number page ≡ true
     → has_other_relation named (Some page) ≡ false → has_other_sequence named (Some page) ≡ false
     → reach.has_role (reached_as named) number page ≡ true
@@ -69,7 +69,7 @@ has_role_from (role.Data r s) number (kind.Data d) code stands relation sequence
     both_true _ _ (both_true _ _ stands (true_from_not _ relation)) (true_from_not _ sequence)
 has_role_from _ number _ code stands relation sequence = absurd (omega arith)
 
--- and a page that has the role is of its kind, its relation and its sequence
+-- And a page that has the role is of its kind, its relation and its sequence.
 pub record Fits (named : Role) (page : Page) : Type 0 where
   pub code : code_of page ≡ kind_code named
   pub relation : has_other_relation named (Some page) ≡ false

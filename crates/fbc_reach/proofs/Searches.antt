@@ -44,7 +44,7 @@ module _ {X : Type 0} where
   pub any_more : (test : X → Bool) (xs : List X) (x : X) → list_any test (xs ++ x ∷ []) ≡ (list_any test xs || test x)
   any_more test xs x = list_any-append test xs (x ∷ []) ∙ ap (λ b. list_any test xs || b) (or_false (test x))
 
-  -- a search for what none passes, and a search by tests that agree
+  -- A search for what none passes, and a search by tests that agree.
   pub find_fails : (test : X → Bool) (xs : List X) → ((n : X) → In xs n → test n ≡ false) → find test xs ≡ None
   find_fails test [] each = refl
   find_fails test (x ∷ xs) each = ap (λ b. cond b (Some x) (find test xs)) (each x (inl refl)) ∙ find_fails test xs (λ n i. each n (inr i))

@@ -13,11 +13,11 @@ pub or_false : (b : Bool) → (b || false) ≡ b
 or_false true = refl
 or_false false = refl
 
--- a page that is named has its own number
+-- A page that is named has its own number.
 pub own_page : (page : ℕ) → (page == page) ≡ true
 own_page page = test_of_same page page refl
 
--- it is in some role where it was in one, or is in this one
+-- It is in some role where it was in one, or is in this one.
 pub one_role_more : (done : List Naming) (page : ℕ) (role : Role) (test : Role → Bool)
     → in_role_among (done ++ naming page role ∷ []) page test ≡ (in_role_among done page test || test role)
 one_role_more done page role test =
@@ -33,7 +33,7 @@ role_if : (b : Bool) (n : Naming) → role_of (cond b (Some n) None) ≡ (if not
 role_if true n = refl
 role_if false n = refl
 
--- it is walked as before, or for this role where it has its kind
+-- It is walked as before, or for this role where it has its kind.
 pub walked_more : (done : List Naming) (page kind : ℕ) (role : Role)
     → role_walked (done ++ naming page role ∷ []) page kind ≡ option_or (role_walked done page kind) (if not (kind == kind_code role) then None else Some role)
 walked_more done page kind role =
@@ -42,7 +42,7 @@ walked_more done page kind role =
     ∙ ap (λ own. option_or (role_walked done page kind) (role_of (cond (own && kind == kind_code role) (Some (naming page role)) None))) (own_page page)
     ∙ ap (option_or (role_walked done page kind)) (role_if (kind == kind_code role) (naming page role))
 
--- a flag that says it of the namings before says it of one more
+-- A flag that says it of the namings before says it of one more.
 pub flag_more : (done : List Naming) (page : ℕ) (role : Role) (test : Role → Bool) (flag here : Bool) → flag ≡ in_role_among done page test → here ≡ test role
     → (flag || here) ≡ in_role_among (done ++ naming page role ∷ []) page test
 flag_more done page role test flag here was is =
@@ -57,7 +57,7 @@ walked_step done page kind role old new other was differs is =
     ∙ ap (λ b. option_or (role_walked done page kind) (if b then None else Some role)) differs
     ∙ sym (walked_more done page kind role)
 
--- a page that is not named is in no role
+-- A page that is not named is in no role.
 not_here : (b test rest : Bool) (n : Naming) (later : Option Naming) → (later ≡ None → rest ≡ false) → cond b (Some n) later ≡ None → ((b && test) || rest) ≡ false
 not_here true test rest n later none e = cc
 not_here false test rest n later none e = none e

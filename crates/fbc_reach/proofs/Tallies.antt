@@ -24,7 +24,7 @@ or_none : {X : Type 0} (o : Option X) → option_or o None ≡ o
 or_none None = refl
 or_none (Some x) = refl
 
--- a naming of another page changes nothing of a page
+-- A naming of another page changes nothing of a page.
 module _ (done : List Naming) (n : Naming) (page : ℕ) (other : (n.page == page) ≡ false) where
   same_in_role : (test : Role → Bool) → in_role_among (done ++ n ∷ []) page test ≡ in_role_among done page test
   same_in_role test =
@@ -61,7 +61,7 @@ module _ (done : List Naming) (n : Naming) (page : ℕ) (other : (n.page == page
     };
   }
 
--- a page that was judged in one role more
+-- A page that was judged in one role more.
 abbrev pub JudgesMore : ℕ → ℕ → Role → NamedPage → NamedPage → Type 0
 JudgesMore size next role old new =
     old.late_version ≡ has_late_version next old.read.content
@@ -77,7 +77,7 @@ module _ (shape : Shape) (file : Option (List ℕ)) (next : ℕ) (done : List Na
   still_read : IsReadOf shape page file old.read → IsReadOf shape page file new.read
   still_read is = subst (IsReadOf shape page file) (sym read) is
 
-  -- again
+  -- Again.
   pub named_again : IsNamedPage shape file next done page old → IsNamedPage shape file next (done ++ naming page role ∷ []) page new
   named_again is = record {
     read = still_read is.read;
@@ -89,7 +89,7 @@ module _ (shape : Shape) (file : Option (List ℕ)) (next : ℕ) (done : List Na
     judged = judges is.late_version page done is.judged;
   }
 
-  -- or for the first time
+  -- Or for the first time.
   pub named_first : find (is_of_page page) done ≡ None → IsReadOf shape page file old.read → old.late_version ≡ has_late_version next old.read.content → old.first ≡ role
       → IsJudged shape.size next done page old → IsNamedPage shape file next (done ++ naming page role ∷ []) page new
   named_first none is late_version role_is judged = record {
@@ -103,7 +103,7 @@ module _ (shape : Shape) (file : Option (List ℕ)) (next : ℕ) (done : List Na
     judged = judges late_version page done judged;
   }
 
--- a map in which that page was put
+-- A map in which that page was put.
 pub tally_step : (shape : Shape) (file : Option (List ℕ)) (next : ℕ) (done : List Naming) (n : Naming) (old new : ℕ → Option NamedPage) (named : NamedPage)
     → ((q : ℕ) → new q ≡ cond (nat_eq n.page q) (Some named) (old q))
     → ((q : ℕ) → IsKept shape file next done q (old q))
@@ -118,7 +118,7 @@ tally_step shape file next done n old new named puts kept is q =
         subst P (same_from_test n.page q e) is
     go false e = still_kept done n q e shape file next (old q) (kept q)
 
--- what a tally keeps of a page that it has, and of one that it has not
+-- What a tally keeps of a page that it has, and of one that it has not.
 pub kept_known : (shape : Shape) (file : Option (List ℕ)) (next : ℕ) (done : List Naming) (page : ℕ) (o : Option NamedPage) (named : NamedPage)
     → IsKept shape file next done page o → o ≡ Some named → IsNamedPage shape file next done page named
 kept_known shape file next done page o named is e = subst (IsKept shape file next done page) e is
@@ -127,7 +127,7 @@ pub kept_unknown : (shape : Shape) (file : Option (List ℕ)) (next : ℕ) (done
     → IsKept shape file next done page o → o ≡ None → find (is_of_page page) done ≡ None
 kept_unknown shape file next done page o is e = subst (IsKept shape file next done page) e is
 
--- a tally of the namings so far, and of one more of a row
+-- A tally of the namings so far, and of one more of a row.
 pub note_step : (shape : Shape) (before now : Option (List ℕ)) (done row : List Naming) (i : ℕ) (d : Naming) (old new : Tally)
     → now ≡ before → i < length row
     → IsTallyOf shape before (done ++ take i row) old

@@ -35,7 +35,7 @@ pub and_true : (b : Bool) → (b && true) ≡ b
 and_true true = refl
 and_true false = refl
 
--- of the namings that a header has, those of pointer pages are the ones of the kind 4
+-- Of the namings that a header has, those of pointer pages are the ones of the kind 4.
 module _ (page : ℕ) where
   row_other : (role_of : ℕ → Role) → ((k : ℕ) → (4 == kind_code (role_of k)) ≡ false) → (place : ℕ) (pages : List ℕ)
       → find (is_of_kind page 4) (named_in_row role_of place pages) ≡ None
@@ -67,7 +67,7 @@ module _ (page : ℕ) where
       ∙ ap (option_or (find (is_of_page page) (named_in_row (role.Pointer number) 0 r.pointers))) (pointers_own (suc number) rs)
       ∙ sym (find-append (is_of_page page) (named_in_row (role.Pointer number) 0 r.pointers) (pointers_named (suc number) rs))
 
--- the namings of a header, page 0 first
+-- The namings of a header, page 0 first.
 abbrev pub header_done : Header → List Naming
 header_done h = naming 0 role.Header ∷ inventory_namings (Some h) ++ tip_namings (Some h) ++ pointer_namings (Some h)
 
@@ -81,7 +81,7 @@ pointer_found h page =
     ∙ row_other page role.Tip (λ k. refl) 0 h.tips)
     ∙ pointers_own page 0 h.relations
 
--- a page that no naming of a header names is named by none of its pointer pages' namings
+-- A page that no naming of a header names is named by none of its pointer pages' namings.
 pub none_later : (a b : Option Naming) → option_or a b ≡ None → b ≡ None
 none_later None b e = e
 none_later (Some n) b e = cc
@@ -135,7 +135,7 @@ none_kept : (named : Role) → ((c : Content) → named_in_content named c ≡ [
 none_kept named none None = refl
 none_kept named none (Some page) = ap (λ names. if is_walked_for named page.walked then names else []) (none page.read.content) ∙ nothing_if (is_walked_for named page.walked)
 
--- what is kept of the pages that a header names gives what the pointer pages that are walked name
+-- What is kept of the pages that a header names gives what the pointer pages that are walked name.
 module _ (shape : Shape) (bytes : List ℕ) (view : View) (shown : IsViewOf shape bytes view) (h : Header) (is : header_of view ≡ Some h) (next : ℕ) where
   abbrev first_of : ℕ → Option Naming
   first_of page = find (is_of_page page) (pointer_namings (Some h))
@@ -186,7 +186,7 @@ flat_filter f g p same (x ∷ xs) =
     ∙ ap (λ rest. (if p x then f x else []) ++ rest) (flat_filter f g p same xs)
     ∙ joined_if f p x xs (p x)
 
--- no page but a pointer page names pages
+-- No page but a pointer page names pages.
 module _ (g : Naming → List Naming) where
   row_nothing : (role_of : ℕ → Role) → ((page k : ℕ) → g (naming page (role_of k)) ≡ []) → (place : ℕ) (pages : List ℕ) → flat_map g (named_in_row role_of place pages) ≡ []
   row_nothing role_of none place [] = refl
@@ -216,7 +216,7 @@ tally_names shape bytes view shown h is tally kept =
     (pointer_namings (Some h))
     ∙ ap (λ o. flat_map (named_by view) (walked (pointer_namings o))) (sym is)
 
--- what a tally of a header's namings gives as the data pages is what the pointer pages name
+-- What a tally of a header's namings gives as the data pages is what the pointer pages name.
 module _ (shape : Shape) (bytes : List ℕ) (view : View) (shown : IsViewOf shape bytes view) (h : Header) (is : header_of view ≡ Some h)
     (one : Tally) (told : Option (List ℕ)) (named found : List Naming) (tells : told ≡ Some bytes)
     (row : named ≡ inventory_namings (Some h) ++ tip_namings (Some h) ++ pointer_namings (Some h))
@@ -231,7 +231,7 @@ module _ (shape : Shape) (bytes : List ℕ) (view : View) (shown : IsViewOf shap
   pub found_named : found ≡ data_namings view
   found_named = from ∙ ap (named_by_tally one) row ∙ tally_names shape bytes view shown h is one kept_first
 
-  -- and with them it is a tally of all namings
+  -- And with them it is a tally of all namings.
   pub all_named : (two : Tally) (now : Option (List ℕ)) → now ≡ told
       → ((done : List Naming) → IsTallyOf shape now done one → IsTallyOf shape now (done ++ found) two)
       → IsTallyOf shape (Some bytes) (namings view) two

@@ -18,15 +18,15 @@ use Rattle.fbc_reach.specs.declared.content.Version.{Version}
 use Rattle.fbc_reach.specs.declared.content.PageRead.{PageRead}
 
 -- Of a cell all but its value.
-abbrev pub version_of : Cell → Version
-version_of cell = record { flag = cell.flag; number = cell.number; back_page = cell.back_page; back_cell = cell.back_cell }
+abbrev pub version_kept : Cell → Version
+version_kept cell = record { flag = cell.flag; number = cell.number; back_page = cell.back_page; back_cell = cell.back_cell }
 
 -- Of a page what the walk goes by; nothing of a header, of a blank page and of bytes that show no page.
 abbrev pub content_of : Option Page → Content
 content_of (Some (kind.Inventory i)) = content.Inventory i.sequence i.taken
 content_of (Some (kind.Tip t)) = content.Tip t.sequence t.states
 content_of (Some (kind.Pointer p)) = content.Pointer p.relation p.sequence p.slots
-content_of (Some (kind.Data d)) = content.Data d.relation d.sequence (map version_of d.cells)
+content_of (Some (kind.Data d)) = content.Data d.relation d.sequence (map version_kept d.cells)
 content_of _ = content.Other
 
 -- A pointer page has all its slots.

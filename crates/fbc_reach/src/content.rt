@@ -1,8 +1,8 @@
 //! What is kept of a page that was read.
 
 ghost use Rattle.std.specs.Prelude.{◌≡◌, IfOk, map, length, Some, None};
-ghost use Rattle.fbc_kinds.specs.HeaderSpelling.{IsShape};
-ghost use Rattle.fbc_reach.specs.Content.{IsReadFrom, content_of, version_of};
+ghost use Rattle.fbc_kinds.specs.HeaderSpelling.{IsFileShape};
+ghost use Rattle.fbc_reach.specs.Content.{IsReadFrom, content_of, version_kept};
 
 use fbc_kinds::{Cell, Flag, Listed, Page, PageFault, Rule, Shape, State};
 use fbc_spelling::page_shown;
@@ -59,7 +59,7 @@ pub fn content_shown(
     number: u32,
     bytes: &[u8],
 ) -> Result<PageRead, AllocError>
-    requires shape { IsShape shape.now }
+    requires shape { IsFileShape shape.now }
     requires length { length bytes.now ≡ shape.now.size }
     ensures { IfOk result (IsReadFrom shape.now number bytes.now) }
 {
@@ -114,17 +114,17 @@ fn content_of(alloc: Global, page: Page) -> Result<Content, AllocError>
 }
 
 fn versions_of(alloc: Global, cells: &[Cell]) -> Result<Listed<Version>, AllocError>
-    ensures { IfOk result (λ versions. versions ≡ map version_of cells.now) }
+    ensures { IfOk result (λ versions. versions ≡ map version_kept cells.now) }
 {
     let mut versions = Vec::with_capacity(alloc, cells.len())?;
     for cell in cells {
-        versions.push(version_of(cell))?;
+        versions.push(version_kept(cell))?;
     }
     Ok(Listed::new(versions))
 }
 
-fn version_of(cell: &Cell) -> Version
-    ensures { result ≡ version_of cell.now }
+fn version_kept(cell: &Cell) -> Version
+    ensures { result ≡ version_kept cell.now }
 {
     Version {
         flag: cell.flag,

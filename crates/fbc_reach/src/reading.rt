@@ -1,7 +1,7 @@
 //! The bytes in a page's place.
 
 ghost use Rattle.std.specs.Prelude.{◌≡◌, ◌≤◌, ◌-◌, ◌++◌, length, take, replicate, Err, IfOk, OnOk};
-ghost use Rattle.fbc_kinds.specs.HeaderSpelling.{IsShape};
+ghost use Rattle.fbc_kinds.specs.HeaderSpelling.{IsFileShape};
 ghost use Rattle.fbc_reach.specs.Content.{IsReadOf};
 ghost use Rattle.fbc_outside.specs.Faults.{bump, HasCause, Rose};
 ghost use Rattle.fbc_reach.specs.Reading.{AreBytesOf};
@@ -43,7 +43,7 @@ pub(crate) fn read_content<D: Device>(
     shape: &Shape,
     number: u32,
 ) -> Result<PageRead, ReadFault>
-    requires { IsShape shape.now }
+    requires { IsFileShape shape.now }
     ensures read { IfOk result (IsReadOf shape.now number (D.bytes device.old)) }
     ensures once { OnOk result (D.reads device.new ≡ bump (D.reads device.old)) }
     ensures bytes { D.bytes device.new ≡ D.bytes device.old }

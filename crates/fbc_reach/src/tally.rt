@@ -5,7 +5,7 @@ ghost use Rattle.std.specs.List.{list_any};
 ghost use Rattle.std.specs.List.Sorted.{IsStrictlyIncreasing};
 ghost use Rattle.std.specs.Option.{option_copied, option_map, option_or};
 ghost use Rattle.indexmap.specs.IndexMap.{get, index_map_len, index_of};
-ghost use Rattle.fbc_kinds.specs.HeaderSpelling.{IsShape};
+ghost use Rattle.fbc_kinds.specs.HeaderSpelling.{IsFileShape};
 ghost use Rattle.fbc_kinds.specs.Limits.{IsPageSize};
 ghost use Rattle.fbc_reach.specs.Content.{IsReadOf, holds_late, is_late};
 ghost use Rattle.fbc_reach.specs.Tally.{IsJudged, IsTallyOf, has_late_version};
@@ -231,7 +231,7 @@ impl Tally {
         shape: &Shape,
         naming: Naming,
     ) -> Result<(), ReadFault>
-        requires { IsShape shape.now }
+        requires { IsFileShape shape.now }
         ensures noted { OnOk result ((done : List Naming)
             → IsTallyOf shape.now (D.bytes device.old) done self.old
             → IsTallyOf shape.now (D.bytes device.old) (done ++ naming ∷ []) self.new) }
@@ -262,7 +262,7 @@ impl Tally {
         shape: &Shape,
         namings: &[Naming],
     ) -> Result<(), ReadFault>
-        requires { IsShape shape.now }
+        requires { IsFileShape shape.now }
         ensures noted { OnOk result ((done : List Naming)
             → IsTallyOf shape.now (D.bytes device.old) done self.old
             → IsTallyOf shape.now (D.bytes device.old) (done ++ namings.now) self.new) }

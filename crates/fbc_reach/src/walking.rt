@@ -3,7 +3,7 @@
 ghost use Rattle.std.specs.Prelude.{◌≡◌, ◌≤◌, ◌<◌, ◌++◌, ℕ, List, Some, Err, IfOk, OnOk, nat_eq, slice_get};
 ghost use Rattle.indexmap.specs.IndexMap.{get};
 ghost use Rattle.fbc_kinds.specs.File.{IsViewOf};
-ghost use Rattle.fbc_kinds.specs.HeaderSpelling.{IsHeader, IsShape};
+ghost use Rattle.fbc_kinds.specs.HeaderSpelling.{IsHeader, IsFileShape};
 ghost use Rattle.fbc_kinds.specs.View.{View, header_of};
 ghost use Rattle.fbc_outside.specs.Faults.{Rose};
 ghost use Rattle.fbc_reach.specs.Content.{IsReadOf};
@@ -38,7 +38,7 @@ pub fn walk<D: Device>(
     header: &Header,
     first: PageRead,
 ) -> Result<Visited, ReadFault>
-    requires shape { IsShape shape.now }
+    requires shape { IsFileShape shape.now }
     requires header { IsHeader header.now.size header.now }
     requires size { header.now.size ≡ shape.now.size }
     requires first { IsReadOf shape.now 0 (D.bytes device.old) first }

@@ -15,18 +15,18 @@ use Rattle.fbc_region.specs.Stepping.{recorded_scene}
 use Rattle.fbc_region.proofs.Coming.{reverse_next}
 use Rattle.fbc_region.proofs.Living.{has_living}
 
--- names after one event more
+-- Names after one event more.
 pub name_next : (events : List Event) (k : ℕ) (event : Event) (owner : ℕ) → slice_get events k ≡ Some event
     → name_of (none_landed (reverse (take (k + 1) events))) owner
     ≡ (if event.actor == owner then name_step (name_of (none_landed (reverse (take k events))) owner) event.act else name_of (none_landed (reverse (take k events))) owner)
 name_next events k event owner at = ap (λ es. name_of (none_landed es) owner) (reverse_next events k event at)
 
--- the living after one event more
+-- The living after one event more.
 pub living_next : (events : List Event) (k : ℕ) (event : Event) → slice_get events k ≡ Some event
     → living (none_landed (reverse (take (k + 1) events))) ≡ living_step (living (none_landed (reverse (take k events)))) event.actor event.act
 living_next events k event at = ap (λ es. living (none_landed es)) (reverse_next events k event at)
 
--- where none of these has the name, an owner among them has another
+-- Where none of these has the name, an owner among them has another.
 unnamed : (names : ℕ → ℕ) (name : ℕ) (owners : List ℕ) → list_any (λ o. names o == name) owners ≡ false → (other : ℕ) → has owners other ≡ true → names other ≢ name
 unnamed names name [] none other there same = absurd cc
 unnamed names name (o ∷ owners) none other there same = go (o == other) refl there (λ there'. unnamed names name owners (rest (names o == name) none) other there' same) where
@@ -38,7 +38,7 @@ unnamed names name (o ∷ owners) none other there same = go (o == other) refl t
   go true is there' later = let one : o ≡ other = grind (arith, nat_tests, is) in grind (arith, nat_tests, none, same, ap names one)
   go false is there' later = later there'
 
--- where each owner among them has another name, none of them has it
+-- Where each owner among them has another name, none of them has it.
 all_named : (names : ℕ → ℕ) (name : ℕ) (owners : List ℕ) → ((other : ℕ) → has owners other ≡ true → names other ≢ name) → list_any (λ o. names o == name) owners ≡ false
 all_named names name [] others = refl
 all_named names name (o ∷ owners) others = go (names o == name) refl (all_named names name owners (λ other there. others other (later other (o == other) there))) where
@@ -82,7 +82,7 @@ module _ (journal : Recording) (who name : ℕ) where
       let iff' : IsTrue may ↔ MayCome h (living h) who name = subst (λ os. IsTrue may ↔ MayCome h os who name) are iff in
       ((λ t. guard_of (iff'.0 t)), (λ guard. iff'.1 (of_guard guard)))
 
--- the test of a coming owner over a journal as it is read
+-- The test of a coming owner over a journal as it is read.
 pub admits : (seen journal : Recording) (who name : ℕ) (owners : List ℕ) (may : Bool) → seen ≡ journal → owners ≡ living (recorded seen)
     → IsTrue may ↔ MayCome (recorded seen) owners who name → IsTrue may ↔ GuardOfEnter (recorded_scene journal) who name
 admits seen journal who name owners may same are iff =

@@ -1,5 +1,5 @@
 -- What a region keeps as an owner asks for a level.
-use Rattle.std.proofs.Common.{◌≡◌, ◌∙◌, ap, ℕ, ◌+◌, ◌≤◌, Bool, true, false, not, ◌==◌, ◌&&◌, cond, if◌then◌else◌, List, [], ◌∷◌, ◌++◌, map, length, Option, Some, None, is_some, sym, subst, refl, arith}
+use Rattle.std.proofs.Common.{append_assoc, ◌≡◌, ◌∙◌, ap, ℕ, ◌+◌, ◌≤◌, Bool, true, false, not, ◌==◌, ◌&&◌, cond, if◌then◌else◌, List, [], ◌∷◌, ◌++◌, map, length, Option, Some, None, is_some, sym, subst, refl, arith}
 use Rattle.std.specs.List.{All, AllByRecursion, filter, find}
 use Rattle.std.specs.Option.{option_map, option_or}
 use Rattle.std.proofs.lemmas.Bool.Decides.{nat_tests}
@@ -54,11 +54,11 @@ come_has : (h : History) (rs : List Request) → AllByRecursion (IsOfCome h) rs 
 come_has h [] all = tt
 come_has h (r ∷ rs) all = ((λ lives. has_living h r.owner ∙ sym all.0.0 ∙ lives), come_has h rs all.1)
 
--- the living owners that have requests are among those that are alive
+-- The living owners that have requests are among those that are alive.
 pub all_live : (h : History) (rs : List Request) → AllByRecursion (IsOfCome h) rs → All (λ (r : Request). r.alive ≡ true → has (living h) r.owner ≡ true) rs
 all_live h rs all = All-from_recursion (λ (r : Request). r.alive ≡ true → has (living h) r.owner ≡ true) rs (come_has h rs all)
 
--- a grant at once
+-- A grant at once.
 module _ (owner : ℕ) (resource : Resource) (level : Level) (word : ℕ) where
   pub own_key : is_key owner resource owner resource ≡ true
   own_key = rw (same_resource-self resource) (grind (arith, nat_tests))
@@ -128,11 +128,11 @@ module _ (given before mid : Recording) (table : LockState) (owners owner : ℕ)
   uses_mid : UsesRoom before mid 1
   uses_mid = room_still before mid owner (Ask resource level wait word) refl events spare
 
-  -- refused
+  -- Refused.
   pub kept_refused : (answer : Asked) (next : LockState) → answer ≡ answer_to_ask table owner resource level wait → next ≡ table → asked table owner resource level word answer ≡ table → IsKept mid next owners
   kept_refused answer next answers is same = kept_asked answer next answers (is ∙ sym same) (rw is k.come)
 
-  -- waiting
+  -- Waiting.
   pub few_live : (next : LockState) → next ≡ after_ask table owner resource level word Queued → All (λ (r : Request). r.alive ≡ true → has (living (recorded before)) r.owner ≡ true) next.requests
   few_live next is = rw is (all_live (recorded before) (after_ask table owner resource level word Queued).requests come_queued)
 
@@ -149,7 +149,7 @@ module _ (given before mid : Recording) (table : LockState) (owners owner : ℕ)
       kept_asked Queued next answers (gone ∙ ap (λ s. withdrawn s owner) is ∙ rw (sym (rw is at some)) refl)
       (rw (gone, is) (come_withdrawn (recorded before) (after_ask table owner resource level word Queued) owner come_queued))
 
-  -- granted at once
+  -- Granted at once.
   module _ (after : Recording) (next : LockState) (answers : Granted ≡ answer_to_ask table owner resource level wait) (is : next ≡ after_ask table owner resource level word Granted)
       (more : after.events ≡ mid.events ++ by owner (Grant resource level) ∷ []) (fewer : after.spare + 1 ≡ mid.spare) where
     kept_mid : IsKept mid (after_ask table owner resource level word Queued) owners
@@ -166,7 +166,24 @@ module _ (given before mid : Recording) (table : LockState) (owners owner : ℕ)
         (kept_still mid after owner (Grant resource level) refl more (after_ask table owner resource level word Queued) (granted_to (after_ask table owner resource level word Queued) owner resource level) owners kept_mid fewer
         (uses_mid 1 (omega (arith, room_here))) refl come_granted))
 
--- who waits for nothing withdraws nothing
+-- The ask and the grant recorded together.
+module _ (given before after : Recording) (table : LockState) (owners owner : ℕ) (resource : Resource) (level : Level) (wait : Bool) (word : ℕ) (seen : before ≡ given) (k : IsKept before table owners)
+    (alive : is_alive (recorded given) owner ≡ true) (may : MayAsk (locks_in given) owner resource level) (room : HasRoom given 9)
+    (events : after.events ≡ before.events ++ by owner (Ask resource level wait word) ∷ by owner (Grant resource level) ∷ []) (spare : after.spare + 2 ≡ before.spare) where
+  -- The journal between the two.
+  abbrev mid : Recording
+  mid = record before { events = before.events ++ by owner (Ask resource level wait word) ∷ []; spare = after.spare + 1 }
+
+  mid_spare : mid.spare + 1 ≡ before.spare
+  mid_spare = omega (arith, spare)
+
+  one_behind : after.events ≡ mid.events ++ by owner (Grant resource level) ∷ []
+  one_behind = events ∙ sym (append_assoc before.events (by owner (Ask resource level wait word) ∷ []) (by owner (Grant resource level) ∷ []))
+
+  pub kept_both : (next : LockState) → Granted ≡ answer_to_ask table owner resource level wait → next ≡ after_ask table owner resource level word Granted → IsKept after next owners
+  kept_both next answers is = kept_granted given before mid table owners owner resource level wait word seen k alive may room refl mid_spare after next answers is one_behind refl
+
+-- Who waits for nothing withdraws nothing.
 nothing_filtered : (owner : ℕ) (rs : List Request) → find (is_wait_of owner) rs ≡ None → map (without_wait owner) (filter (λ r. not (is_bare_wait_of owner r)) rs) ≡ rs
 nothing_filtered owner [] none = refl
 nothing_filtered owner (r ∷ rs) none = go (is_wait_of owner r) refl none (nothing_filtered owner rs) where
@@ -192,7 +209,7 @@ nothing_withdrawn s owner idle = ap (λ rs. record s { requests = rs }) (nothing
   none None is = refl
   none (Some r) is = absurd cc
 
--- a withdrawal
+-- A withdrawal.
 module _ (given before mid : Recording) (table : LockState) (owners owner : ℕ) (seen : before ≡ given) (k : IsKept before table owners) (room : HasRoom given 9)
     (events : mid.events ≡ before.events ++ by owner Withdraw ∷ []) (spare : mid.spare + 1 ≡ before.spare) where
   pub kept_withdrawn : (next : LockState) → next ≡ withdrawn table owner → IsKept mid next owners

@@ -63,7 +63,7 @@ module _ (owner : ℕ) (resource : Resource) where
   began_filter : (q : Request → Bool) (rs : List Request) → Began (filter q rs) rs
   began_filter q rs = any_filter (begins_by owner resource) q rs
 
-  -- a change that ends some waits
+  -- A change that ends some waits.
   ends_wait : (f : Request → Request) (ends : Request → Bool) (x : Request) → is_of owner resource (f x) ≡ is_of owner resource x → (f x).waiting ≡ (if ends x then None else x.waiting)
       → begins_by owner resource (f x) ≡ true → begins_by owner resource x ≡ true
   ends_wait f ends x same is here = go (is_of owner resource x) (ends x) x.waiting (rw (same, is) at here) where

@@ -10,15 +10,14 @@ use Rattle.fbc_levels.specs.declared.resources.Series.TheVariants as series
 use Rattle.fbc_levels.specs.Levels.{is_exclusive}
 use Rattle.fbc_levels.specs.LockState.{wait_of}
 use Rattle.fbc_levels.specs.Resources.{is_same_series}
-use Rattle.fbc_lock_table.specs.declared.answers.Asked.TheVariants.{Granted}
-use Rattle.fbc_lock_table.specs.Answers.{answer_to_ask}
 use Rattle.fbc_lock_table.specs.Effects.{entered}
 use Rattle.fbc_legal.specs.Circles.{HasJustAsked}
 use Rattle.fbc_legal.specs.Guards.{Guard, GuardOfAsk, GuardOfSeries}
-use Rattle.fbc_legal.specs.Legal.{Follows, FollowsAct, IsGrantOf, IsLegal}
+use Rattle.fbc_legal.specs.Legal.{ComesNext, IsGrantOf, IsLegal}
 use Rattle.fbc_legal.specs.Ranks.{MayWaitFor}
 use Rattle.fbc_legal.specs.Scene.{Scene, scene_of}
 use Rattle.fbc_legal.proofs.Asking.{ComesTo, ask-comes}
+use Rattle.fbc_legal.proofs.Ranked.{granted_next}
 use Rattle.fbc_legal.proofs.Waiters.{granted_waits_not, waits_free, waits_in}
 use Rattle.fbc_world.specs.declared.events.Act.{Act}
 use Rattle.fbc_world.specs.declared.events.Act.TheVariants.{Ask}
@@ -27,21 +26,16 @@ use Rattle.fbc_world.specs.Locks.{locks_of, locks_step}
 use Rattle.fbc_world.proofs.WorldLaws.{IsReplayed-world}
 use Rattle.fbc_region.proofs.Begins.{IsBeginAct, IsBeginOf, begins_in, begins_step, begins_wait}
 
--- who has the header pinned does not wait for a number
+-- Who has the header pinned does not wait for a number.
 pub no_wait : (at : Scene) (owner : ℕ) (kind : Series) (key : ℕ) (level : Level) (word : ℕ) → is_same_series kind series.Transaction && is_exclusive level ≡ true → GuardOfSeries at owner kind key level word
     → MayWaitFor at owner kind key → ⊥
 no_wait at owner series.Transaction key Ex word high g up = let no : false ≡ true = sym (up 0) ∙ g.header in cc
 no_wait at owner series.Transaction key _ word high g up = cc
 no_wait at owner _ key level word high g up = cc
 
-pub granted_next : (before : History) (owner : ℕ) (resource : Resource) (level : Level) (last_actor : ℕ) (last_act : Act) (wait : Bool) (word : ℕ) (moment : Moment)
-    → last_actor ≡ owner → last_act ≡ Ask resource level wait word → answer_to_ask (locks_of before) owner resource level wait ≡ Granted → FollowsAct before last_actor last_act moment
-    → IsGrantOf owner resource level moment
-granted_next before owner resource level last_actor last_act wait word moment its is free follows = (rw (its, is) at follows) free
-
 module _ (owner : ℕ) (resource : Resource) where
-  -- what was asked with nobody in the way is waited for no more after the next moment
-  no_more : (before : History) (moment : Moment) → Follows before moment → HasJustAsked before owner resource → waits_in (locks_of (moment ∷ before)) owner resource ≡ true → ⊥
+  -- What was asked with nobody in the way is waited for no more after the next moment.
+  no_more : (before : History) (moment : Moment) → ComesNext before moment → HasJustAsked before owner resource → waits_in (locks_of (moment ∷ before)) owner resource ≡ true → ⊥
   no_more [] moment follows just waits = just
   no_more (last ∷ rest) moment follows just waits =
       let grant : IsGrantOf owner resource just.level moment =

@@ -16,7 +16,7 @@ pub is_called : (s : LockState) (who : ℕ) (found : Option Callback) → MatchO
 is_called s who None keeps = (λ is. absurd cc, λ some. absurd (no_callback s who keeps some))
 is_called s who (Some callback) next = (λ is. (callback.page, next.page.blocks), λ some. refl)
 
--- the same of a table that is known by another name
+-- The same of a table that is known by another name.
 pub is_called_by : (table s : LockState) → table ≡ s → (who : ℕ) (found : Option Callback) → MatchOption found (KeepsNobodyOut table who None) (IsNextCallback table who None)
     → (called : Bool) → called ≡ is_some found → IsTrue called ↔ ((page : ℕ) × IsSome (blocked_by s who page))
 is_called_by table s same who found next called is =

@@ -38,7 +38,7 @@ abbrev pub is_write_fault : Answer → Bool
 is_write_fault answers.WriteFault = true
 is_write_fault _ = false
 
--- where no write failed there is no landing
+-- Where no write failed there is no landing.
 pub no_landing : (answer : Answer) (new : List Bool) → is_write_fault answer ≡ false → AreLandings answer new → new ≡ []
 no_landing answers.WriteFault new isnt are = absurd cc
 no_landing _ new isnt are = are

@@ -16,7 +16,7 @@ entered_more [] before = omega arith
 entered_more (event ∷ later) before =
     omega (arith, grows (entered (none_landed (later ++ before))) event.act, entered_more later before)
 
--- so many came with the first events, and no fewer with all
+-- So many came with the first events, and no fewer with all.
 pub entered_prefix : (k : ℕ) (events : List Event) → entered (none_landed (reverse (take k events))) ≤ entered (none_landed (reverse events))
 entered_prefix k events =
     let whole : reverse (drop k events) ++ reverse (take k events) ≡ reverse events = sym (reverse-append (take k events) (drop k events)) ∙ ap reverse (take-append-drop k events) in
@@ -27,16 +27,16 @@ take_next [] k x at = absurd cc
 take_next (y ∷ ys) zero x at = let same : y ≡ x = cc in rw same refl
 take_next (y ∷ ys) (suc k) x at = ap (λ zs. y ∷ zs) (take_next ys k x at)
 
--- one event more is the newest
+-- One event more is the newest.
 pub reverse_next : {X : Type 0} (xs : List X) (k : ℕ) (x : X) → slice_get xs k ≡ Some x → reverse (take (k + 1) xs) ≡ x ∷ reverse (take k xs)
 reverse_next xs k x at = rw add-one (ap reverse (take_next xs k x at) ∙ reverse-append (take k xs) (x ∷ []))
 
--- the owners after one event more
+-- The owners after one event more.
 pub entered_next : (events : List Event) (k : ℕ) (event : Event) → slice_get events k ≡ Some event
     → entered (none_landed (reverse (take (k + 1) events))) ≡ entered_step (entered (none_landed (reverse (take k events)))) event.act
 entered_next events k event at = ap (λ es. entered (none_landed es)) (reverse_next events k event at)
 
--- which are no more than all that came
+-- Which are no more than all that came.
 pub entered_within : (events : List Event) (k : ℕ) (event : Event) (limit : ℕ) → slice_get events k ≡ Some event → entered (none_landed (reverse events)) ≤ limit
     → entered_step (entered (none_landed (reverse (take k events)))) event.act ≤ limit
 entered_within events k event limit at few = omega (arith, entered_next events k event at, entered_prefix (k + 1) events, few)

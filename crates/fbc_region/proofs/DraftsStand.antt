@@ -23,7 +23,7 @@ use Rattle.fbc_region.proofs.Standing.{CarriesNumber, Stands, edited_stands}
 abbrev pub DraftStands : ℕ → Option Page → Option Draft → Type 0
 DraftStands number kept draft = Stands number kept → Stands number (newest_in kept draft)
 
--- and what an owner has
+-- And what an owner has.
 pub own_stands : (number owner : ℕ) (kept : Option Page) (draft : Option Draft) → DraftStands number kept draft → Stands number kept → Stands number (page_for owner kept draft)
 own_stands number owner kept None stands here = here
 own_stands number owner kept (Some draft) stands here = go (draft.owner == owner) where

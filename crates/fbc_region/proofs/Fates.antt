@@ -20,11 +20,11 @@ use Rattle.fbc_region.specs.Shared.{HasRoom}
 use Rattle.fbc_region.proofs.Living.{fewer_all_but, has_living, less_all_but}
 use Rattle.fbc_region.proofs.Pushed.{recorded_push}
 
--- whether an owner is alive after an act of some actor
+-- Whether an owner is alive after an act of some actor.
 abbrev alive_after : ℕ → Act → ℕ → Bool → Bool
 alive_after actor act owner alive = if actor == owner then alive_step alive act else alive
 
--- what a death does: it is killed, or a write of it fails
+-- What a death does: it is killed, or a write of it fails.
 pub record IsDeath (act : Act) : Type 0 where
   pub goes : (owners : List ℕ) (owner : ℕ) → living_step owners owner act ≡ all_but owner owners
   pub count : (n : ℕ) → entered_step n act ≡ n
@@ -38,7 +38,7 @@ pub failed : (page : ℕ) (cause : Cause) → IsDeath (Write page cause true)
 failed page cause = record { goes = λ owners owner. refl; count = λ n. refl; lives = λ alive. refl; locks = λ s owner. refl }
 
 module _ (h : History) (owner : ℕ) where
-  -- requests of those that came before are of others than who comes now
+  -- Requests of those that came before are of others than who comes now.
   pub come_enter : (buffers name : ℕ) → owner ≡ suc (entered h) → (rs : List Request) → AllByRecursion (IsOfCome h) rs → AllByRecursion (IsOfCome (happens owner (Enter buffers name) false ∷ h)) rs
   come_enter buffers name next [] all = tt
   come_enter buffers name next (r ∷ rs) all = ((all.0.0 ∙ others r all.0.1, omega (arith, all.0.1)), come_enter buffers name next rs all.1) where
@@ -147,6 +147,6 @@ module _ (before after : Recording) (owner : ℕ) (table : LockState) (owners : 
         clash b isnt is = cc
       came other false lives = k.living_came other lives
 
--- there is a place for the death of a living owner
+-- There is a place for the death of a living owner.
 pub place_die : (before : Recording) (owner : ℕ) (table : LockState) (owners : ℕ) → IsKept before table owners → is_alive (recorded before) owner ≡ true → 0 < before.spare
 place_die before owner table owners k alive = omega (arith, less_all_but owner (living (recorded before)) (has_living (recorded before) owner ∙ alive), k.aside)

@@ -32,7 +32,7 @@ use Rattle.fbc_region.proofs.Asking.{own_key, waits_there}
 use Rattle.fbc_region.proofs.Ending.{Ends, follows_rest, rests_after}
 use Rattle.fbc_region.proofs.NextGrants.{beside_all}
 
--- nobody is in the way where an ask is granted at once
+-- Nobody is in the way where an ask is granted at once.
 pub free_way : (s : LockState) (owner : ℕ) (resource : Resource) (level : Level) (wait : Bool) → answer_to_ask s owner resource level wait ≡ Granted → holder_of s owner resource level ≡ None
 free_way s owner resource level wait is = go (lacks_room s owner resource) (dead_of s) (holder_of s owner resource level) is where
   beside : (holder : Request) (waits : Bool) → answer_beside waits (Some holder) ≡ Granted → ⊥
@@ -44,7 +44,7 @@ free_way s owner resource level wait is = go (lacks_room s owner resource) (dead
   go false buried None is' = refl
   go false buried (Some r) is' = absurd (beside r wait is')
 
--- an ask to begin meets what a begin asks
+-- An ask to begin meets what a begin asks.
 pub begin_asked : (at : Scene) (owner : ℕ) (kind : Series) (key : ℕ) (level : Level) (word : ℕ) → is_same_series kind series.Transaction && is_exclusive level ≡ true → GuardOfSeries at owner kind key level word
     → MayBegin at owner key word
 begin_asked at owner series.Transaction key Ex word high g = g
@@ -55,7 +55,7 @@ module _ (s : LockState) (owner : ℕ) (resource : Resource) (level : Level) (wo
   abbrev queued : LockState
   queued = after_ask s owner resource level word Queued
 
-  -- who has asked waits for what it asked
+  -- Who has asked waits for what it asked.
   pub waits_queued : waiting_of queued owner resource ≡ Some level
   waits_queued = go (request_of queued owner resource) refl (waits_there owner resource level word s.requests) where
     as_asked : (x : Request) → is_of owner resource (with_waiting owner resource level x) ≡ true → (with_waiting owner resource level x).waiting ≡ Some level
@@ -67,7 +67,7 @@ module _ (s : LockState) (owner : ℕ) (resource : Resource) (level : Level) (wo
         found_image (is_of owner resource) (with_waiting owner resource level) (λ y. is_of owner resource y ≡ true → y.waiting ≡ Some level) as_asked (entered s.requests owner resource word) r is
         (find_passes (is_of owner resource) queued.requests r is)
 
-  -- a new request has the data word that was given
+  -- A new request has the data word that was given.
   new_found : request_of s owner resource ≡ None → option_or (find (is_of owner resource) s.requests) (if is_key owner resource owner resource then Some (new_request owner resource word) else None) ≡ Some (new_request owner resource word)
   new_found none = rw (none, own_key owner resource level word) refl
 

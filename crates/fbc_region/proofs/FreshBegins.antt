@@ -17,7 +17,7 @@ use Rattle.fbc_lock_table.specs.Answers.{answer_to_ask}
 use Rattle.fbc_lock_table.proofs.Ways.{same_resource}
 use Rattle.fbc_legal.specs.Circles.{HasJustAsked}
 use Rattle.fbc_legal.specs.Guards.{Guard, GuardOfAsk, MayBegin}
-use Rattle.fbc_legal.specs.Legal.{Follows, IsGrantOf, IsLegal, MayAct}
+use Rattle.fbc_legal.specs.Legal.{ComesNext, IsGrantOf, IsLegal, MayAct}
 use Rattle.fbc_legal.specs.Lives as lives
 use Rattle.fbc_legal.specs.Scene.{Scene, number_resource, scene_of}
 use Rattle.fbc_legal.proofs.HeaderGrowth.{exclusive-own, newest-own}
@@ -46,7 +46,7 @@ last_dies Die alive last = refl
 last_dies (Write page cause failed) alive last = rw last refl
 last_dies _ alive last = absurd cc
 
--- nobody that comes later has a request
+-- Nobody that comes later has a request.
 no_later : (history : History) (owner : ℕ) (resource : Resource) → owner ≡ suc (lives.entered history) → (rs : List Request) → AllByRecursion (IsOfCome history) rs → has_in rs owner resource ≡ true → ⊥
 no_later history owner resource next [] come is = cc
 no_later history owner resource next (r ∷ rs) come is = go (is_of owner resource r) refl is (no_later history owner resource next rs come.1) where
@@ -119,8 +119,8 @@ module _ (shape : Shape) (file : View) (before : History) (legal : IsLegal shape
   abbrev KnownAfter : Act → Type 0
   KnownAfter act = IsKnown (After act) (happens actor act landed ∷ before) owner number
 
-  -- what was known stays so
-  known_before : (act : Act) → Guard at actor act → Follows before (happens actor act landed) → (After act).is_alive owner ≡ true → IsKnown w before owner number → KnownAfter act
+  -- What was known stays so.
+  known_before : (act : Act) → Guard at actor act → ComesNext before (happens actor act landed) → (After act).is_alive owner ≡ true → IsKnown w before owner number → KnownAfter act
   known_before act g follows alive (inl below) = inl (omega (arith, below, risen)) where
     risen : next_for owner (w.kept 0) (w.draft 0) ≤ next_for owner ((After act).kept 0) ((After act).draft 0)
     risen = rises shape file before legal actor landed owner number act g (λ last same. absurd (let other : owner == actor ≡ false = lives_on act alive last in grind (arith, nat_tests, other, same)))
@@ -135,7 +135,7 @@ module _ (shape : Shape) (file : View) (before : History) (legal : IsLegal shape
       let grant : IsGrantOf owner (number_resource number) Ex (happens actor act landed) = begins_number before (happens actor act landed) owner number follows just in
       inr (inl (opened_by act grant.actor grant.act))
 
-  -- what has just been asked for is known
+  -- What has just been asked for is known.
   new_known : (level : Level) (wait : Bool) (word : ℕ) → actor ≡ owner → GuardOfAsk at actor (number_resource number) level wait word → StaysAsked s actor (number_resource number) level wait word
       → KnownAfter (Ask (number_resource number) level wait word)
   new_known Ex wait word its g (inl free) = inr (inr (record { wait = wait; word = word; actor = its; act = refl; free = subst (λ o. answer_to_ask s o (number_resource number) Ex wait ≡ Granted) its free }))
@@ -150,7 +150,7 @@ module _ (shape : Shape) (file : View) (before : History) (legal : IsLegal shape
       subst (λ q. GuardOfAsk at actor q level wait word → StaysAsked s actor q level wait word → KnownAfter (Ask q level wait word)) (sym same) (new_known level wait word its) g asked
   new_ask _ g new = absurd new
 
-  pub known_acted : (act : Act) → MayAct at actor act → Guard at actor act → Follows before (happens actor act landed)
+  pub known_acted : (act : Act) → MayAct at actor act → Guard at actor act → ComesNext before (happens actor act landed)
       → (w.is_alive owner ≡ true → has_in s.requests owner (number_resource number) ≡ true → IsKnown w before owner number)
       → (After act).is_alive owner ≡ true → HasAfter act → KnownAfter act
   known_acted act may g follows known alive has = go (has_step owner (number_resource number) s actor act (there act g) has) where
@@ -164,7 +164,7 @@ known_legal shape file [] legal owner number alive has = absurd cc
 known_legal shape file (moment ∷ before) legal owner number alive has =
     known_acted shape file before legal.0 moment.event.actor moment.landed owner number moment.event.act legal.1.alive legal.1.guard legal.1.follows (known_legal shape file before legal.0 owner number) alive has
 
--- an owner that begins has just asked for nothing
+-- An owner that begins has just asked for nothing.
 just_begun : (history : History) (owner number : ℕ) → HasJustBegun history owner number → HasJustAsked history owner (number_resource number)
 just_begun [] owner number just = just
 just_begun (last ∷ before) owner number just = record { level = Ex; wait = just.wait; word = just.word; actor = just.actor; act = just.act; free = just.free }
@@ -190,7 +190,7 @@ module _ (shape : Shape) (file : View) (history : History) (ends : Ends shape fi
         absurd (unknown (known_legal shape file history ends.legal owner number alive
         (found_any (is_of owner (number_resource number)) (is_of owner (number_resource number)) r (find_passes (is_of owner (number_resource number)) (locks_of history).requests r is) (locks_of history).requests is)))
 
--- the same of a resource that is a number
+-- The same of a resource that is a number.
 pub fresh_ask : (shape : Shape) (file : View) (history : History) → Ends shape file history → (owner : ℕ) (resource : Resource) (level : Level) (word : ℕ) → (world_of shape file history).is_alive owner ≡ true
     → is_begin resource level ≡ true → MayBegin (scene_of shape file history) owner resource.key word → request_of (locks_of history) owner resource ≡ None
 fresh_ask shape file history ends owner resource level word alive high m =

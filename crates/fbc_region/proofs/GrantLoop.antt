@@ -16,7 +16,7 @@ use Rattle.fbc_region.specs.Granting.{GrantedOn, ended, granted, waits_in}
 use Rattle.fbc_region.proofs.Granting.{fewer_next, lawful_next, level_next}
 use Rattle.fbc_region.proofs.Pushed.{recorded_push}
 
--- the grants so far, and that those still to come follow them
+-- The grants so far, and that those still to come follow them.
 pub record GrantsSoFar (resource : Resource) (first : LockState) (before : Recording) (now : LockState) (journal : Recording) : Type 0 where
   pub grants : List Event
   pub adds : Adds before journal grants
@@ -39,7 +39,7 @@ granting_starts resource s journal lawful few room = record {
 }
 
 module _ (resource : Resource) (first : LockState) (before : Recording) (now : LockState) (journal : Recording) (g : Granting resource first before now journal) where
-  -- one grant more
+  -- One grant more.
   pub granting_goes : (r : Request) (level : Level) (after : LockState) (longer : Recording) → next_grant now resource ≡ Some r → after ≡ after_grant now r.owner r.resource
       → level ≡ granted_of after r.owner resource → longer.events ≡ journal.events ++ by r.owner (Grant resource level) ∷ [] → longer.shape ≡ journal.shape → longer.spare + 1 ≡ journal.spare
       → Granting resource first before after longer
@@ -69,12 +69,12 @@ module _ (resource : Resource) (first : LockState) (before : Recording) (now : L
   pub fewer_goes : (r : Request) (after : LockState) → next_grant now resource ≡ Some r → after ≡ after_grant now r.owner r.resource → waits_in after + 1 ≤ waits_in now
   fewer_goes r after next is = rw is (fewer_next now g.lawful resource r next)
 
-  -- the end
+  -- The end.
   pub granting_ends : (after : LockState) → next_grant now resource ≡ None → after ≡ now → (grants : List Event) × Adds before journal grants × GrantedOn resource first grants after
   granting_ends after none is =
       (g.so_far.grants, g.so_far.adds, subst (λ es. GrantedOn resource first es after) (append-nil g.so_far.grants) (g.so_far.follow [] after (ended now after [] none is refl)))
 
--- what a call of the queues granted, by its answer
+-- What a call of the queues granted, by its answer.
 pub record IsNext (s : LockState) (resource : Resource) (owner : ℕ) (after : LockState) : Type 0 where
   pub request : Request
   pub next : next_grant s resource ≡ Some request

@@ -17,7 +17,7 @@ use Rattle.fbc_world.proofs.Apart.{IsApart, once}
 use Rattle.fbc_world.proofs.Found.{find_map, find_passes}
 use Rattle.fbc_region.specs.Granting.{is_live_wait, waits_in}
 
--- what holds of all holds of the one that is found
+-- What holds of all holds of the one that is found.
 pub all_found : {X : Type 0} (P : X → Type 0) (p : X → Bool) (xs : List X) (x : X) → All P xs → find p xs ≡ Some x → P x
 all_found P p [] x all is = absurd cc
 all_found {X} P p (y ∷ ys) x all is = go (p y) is (All-head P y ys all) (all_found P p ys x (All-tail P y ys all)) where
@@ -25,7 +25,7 @@ all_found {X} P p (y ∷ ys) x all is = go (p y) is (All-head P y ys all) (all_f
   go true is' here rest = let same : y ≡ x = cc in subst P same here
   go false is' here rest = rest is'
 
--- who waits after a grant waited before it
+-- Who waits after a grant waited before it.
 waits_before : (o : ℕ) (res : Resource) (r : Request) → is_live_wait (granting o res r) ≡ true → is_live_wait r ≡ true
 waits_before o res r = go (is_of o res r) r.alive r.waiting where
   go : (b alive : Bool) (w : Option Level) → alive && is_some (if b then None else w) ≡ true → alive && is_some w ≡ true
@@ -49,7 +49,7 @@ counted_less true false x y xs ys keeps less = absurd (let there : false ≡ tru
 counted_less false true x y xs ys keeps less = omega (arith, less)
 counted_less false false x y xs ys keeps less = less
 
--- a grant to one that is found leaves fewer that wait
+-- A grant to one that is found leaves fewer that wait.
 fewer : (p : Request → Bool) → ((x : Request) → p x ≡ true → is_live_wait x ≡ true) → (rs : List Request) (r : Request) → find p rs ≡ Some r
     → length (filter is_live_wait (map (granting r.owner r.resource) rs)) + 1 ≤ length (filter is_live_wait rs)
 fewer p waits [] r is = absurd cc
@@ -79,7 +79,7 @@ fewer p waits (q ∷ rs) r is = step (p q) refl is (fewer p waits rs r) where
   step false can found rest =
       counted_less (is_live_wait (granting r.owner r.resource q)) (is_live_wait q) (granting r.owner r.resource q) q _ _ (waits_before r.owner r.resource q) (rest found)
 
--- what the test of a grant says
+-- What the test of a grant says.
 both : (a b c : Bool) → (a && b && c) ≡ true → (a ≡ true) × (b ≡ true) × (c ≡ true)
 both true true true is = (refl, refl, refl)
 both true true false is = absurd cc
@@ -104,11 +104,11 @@ grantable_waits s resource r is =
     let parts = both (is_same_resource r.resource resource) r.alive (is_clear s r) is in
     rw (parts.1, some_wait s r.waiting r.owner r.resource parts.2) refl
 
--- each request is the one of its owner for its resource
+-- Each request is the one of its owner for its resource.
 pub the_one : (s : LockState) → IsApart s → (owner : ℕ) (resource : Resource) → All (λ x. is_of owner resource x ≡ true → request_of s owner resource ≡ Some x) s.requests
 the_one s apart owner resource = find-only (is_of owner resource) s.requests (once owner resource s.requests apart)
 
--- what is granted next, where no owner has two requests for one resource
+-- What is granted next, where no owner has two requests for one resource.
 module _ (s : LockState) (apart : IsApart s) (resource : Resource) (r : Request) (next : next_grant s resource ≡ Some r) where
   parts : (is_same_resource r.resource resource ≡ true) × (r.alive ≡ true) × (is_clear s r ≡ true)
   parts = both (is_same_resource r.resource resource) r.alive (is_clear s r) (find_passes (is_grantable s resource) s.requests r next)
@@ -147,7 +147,7 @@ module _ (s : LockState) (lawful : IsLawful s) (resource : Resource) (r : Reques
   found_after : request_of (after_grant s r.owner r.resource) r.owner r.resource ≡ Some (granting r.owner r.resource r)
   found_after = find_map (is_of r.owner r.resource) (granting r.owner r.resource) (λ x. refl) s.requests ∙ ap (option_map (granting r.owner r.resource)) only_next
 
-  -- the level that is granted then is the one that was waited for
+  -- The level that is granted then is the one that was waited for.
   pub level_next : r.waiting ≡ Some (granted_of (after_grant s r.owner r.resource) r.owner resource)
   level_next = subst (λ res. r.waiting ≡ Some (granted_of (after_grant s r.owner r.resource) r.owner res)) same_next (rw found_after (rw (is_of-self r) (level r.waiting (some_apart s lawful.apart resource r next)))) where
     level : (w : Option Level) → is_some w ≡ true → w ≡ Some (unwrap_or w r.granted)

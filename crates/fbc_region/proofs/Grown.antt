@@ -21,7 +21,7 @@ use Rattle.fbc_region.specs.Kept.{IsOfCome}
 use Rattle.fbc_region.proofs.Granting.{lawful_next, only_apart, resource_apart, the_one}
 use Rattle.fbc_region.proofs.Pushed.{recorded_push}
 
--- a history with these events more, none of them a landing
+-- A history with these events more, none of them a landing.
 abbrev pub lengthened : History → List Event → History
 lengthened h [] = h
 lengthened h (event ∷ events) = lengthened (record { event = event; landed = false } ∷ h) events
@@ -32,7 +32,7 @@ recorded_adds before after (event ∷ events) is =
     let mid : Recording = record before { events = before.events ++ event ∷ [] } in
     recorded_adds mid after events (is ∙ sym (append_assoc before.events (event ∷ []) events)) ∙ ap (λ h. lengthened h events) (recorded_push before mid event refl)
 
--- the grant of what a request waits for is the grant of that level
+-- The grant of what a request waits for is the grant of that level.
 granted_same : (owner : ℕ) (resource : Resource) (level : Level) (x : Request) → (is_of owner resource x ≡ true → x.waiting ≡ Some level) → granting owner resource x ≡ with_grant owner resource level x
 granted_same owner resource level x waits = go (is_of owner resource x) refl where
   go : (b : Bool) → is_of owner resource x ≡ b → granting owner resource x ≡ with_grant owner resource level x
@@ -56,7 +56,7 @@ step_apart s apart resource r level next waits =
       waited : (x : Request) → Some x ≡ Some r → x.waiting ≡ Some level
       waited x is = let same : x ≡ r = cc in rw same waits
 
--- nobody comes, goes or dies
+-- Nobody comes, goes or dies.
 pub record SameLives (h later : History) : Type 0 where
   pub living_is : living later ≡ living h
   pub entered_is : lives.entered later ≡ lives.entered h
@@ -66,14 +66,14 @@ come_same : (h later : History) → SameLives h later → (rs : List Request) �
 come_same h later same [] all = tt
 come_same h later same (r ∷ rs) all = ((all.0.0 ∙ sym (same.alive_is r.owner), omega (arith, all.0.1, same.entered_is)), come_same h later same rs all.1)
 
--- a change that leaves owners and whether they are alive
+-- A change that leaves owners and whether they are alive.
 pub come_map : (h : History) (f : Request → Request) → ((x : Request) → (f x).owner ≡ x.owner) → ((x : Request) → (f x).alive ≡ x.alive) → (rs : List Request)
     → AllByRecursion (IsOfCome h) rs → AllByRecursion (IsOfCome h) (map f rs)
 come_map h f owners alive [] all = tt
 come_map h f owners alive (r ∷ rs) all =
     ((alive r ∙ all.0.0 ∙ ap (is_alive h) (sym (owners r)), omega (arith, owners r, all.0.1)), come_map h f owners alive rs all.1)
 
--- the state of the requests follows a history
+-- The state of the requests follows a history.
 pub record FollowsIt (s : LockState) (h : History) : Type 0 where
   pub requests : s ≡ locks_of h
   pub come : AllByRecursion (IsOfCome h) s.requests

@@ -97,7 +97,7 @@ module _ (before after : Recording) (actor : ℕ) (act : Act) (still : is_still 
     living_came = λ owner alive. k.living_came owner (sym (ap (λ h. is_alive h owner) whole ∙ is_alive_still (recorded before) actor act owner still) ∙ alive);
   }
 
--- the same of an act that changes no request
+-- The same of an act that changes no request.
 pub kept_quiet : (before after : Recording) (actor : ℕ) (act : Act) → is_quiet act ≡ true → after.events ≡ before.events ++ by actor act ∷ []
     → (table : LockState) (owners : ℕ) → IsKept before table owners → after.spare + 1 ≡ before.spare → HasRoom before 1 → IsKept after table owners
 kept_quiet before after actor act quiet events table owners k spare room =
@@ -106,10 +106,10 @@ kept_quiet before after actor act quiet events table owners k spare room =
 pub room_quiet : (before after : Recording) (actor : ℕ) (act : Act) → is_quiet act ≡ true → after.events ≡ before.events ++ by actor act ∷ [] → after.spare + 1 ≡ before.spare → UsesRoom before after 1
 room_quiet before after actor act quiet events spare = room_still before after actor act (quiet_is_still act quiet) events spare
 
--- and for no more owners there is a number than came
+-- And for no more owners there is a number than came.
 pub came_quiet : (before : Recording) (act : Act) (table : LockState) (owners : ℕ) → is_quiet act ≡ true → IsKept before table owners → entered_step (entered (recorded before)) act ≤ 65536
 came_quiet before act table owners quiet k = omega (arith, entered_still (entered (recorded before)) act (quiet_is_still act quiet), k.count, k.within)
 
--- what uses little room uses no more than a step may
+-- What uses little room uses no more than a step may.
 pub uses_more : (given after before : Recording) → before ≡ given → UsesRoom before after 1 → UsesRoom given after 9
 uses_more given after before seen one = subst (λ j. UsesRoom j after 9) seen (λ n room. one n (omega (arith, room)))

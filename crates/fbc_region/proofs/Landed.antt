@@ -10,13 +10,15 @@ use Rattle.fbc_world.specs.Locks.{locks_of, locks_step}
 use Rattle.fbc_world.specs.Owners.{alive_step, is_alive}
 use Rattle.fbc_region.specs.Adding.{local_events}
 use Rattle.fbc_region.specs.Granting.{AreGrants, GrantedOn, ended, granted}
+use Rattle.fbc_legal.specs.Circles.{IsFreeAsk}
+use Rattle.fbc_region.specs.Kept.{IsAtRest}
 use Rattle.fbc_region.specs.Lawful.{with_locals}
 use Rattle.fbc_region.specs.Shared.{earlier_landings, first_landing, history_of, is_failed_write, locks_in, with_landings}
 use Rattle.fbc_levels.specs.declared.resources.Resource.{Resource}
 use Rattle.fbc_levels.specs.LockState.{LockState}
 use Rattle.fbc_region.proofs.Grown.{lengthened}
 
--- the requests are the same whichever writes landed
+-- The requests are the same whichever writes landed.
 locks_landed : (events : List Event) (landings : List Bool) → locks_of (with_landings events landings) ≡ locks_of (none_landed events)
 locks_landed [] landings = refl
 locks_landed (event ∷ events) landings = go (is_failed_write event.act) (locks_landed events (earlier_landings landings)) (locks_landed events landings) where
@@ -29,7 +31,23 @@ locks_landed (event ∷ events) landings = go (is_failed_write event.act) (locks
 pub locks_same : (journal : Recording) (landings : List Bool) → locks_in journal ≡ locks_of (history_of journal landings)
 locks_same journal landings = sym (locks_landed (reverse journal.events) (reverse landings))
 
--- and so is who is alive
+-- And so is whether an ask still waits for its grant.
+rests_landed : (events : List Event) (landings : List Bool) → IsAtRest (none_landed events) → IsAtRest (with_landings events landings)
+rests_landed [] landings rests = rests
+rests_landed (event ∷ events) landings rests = go (is_failed_write event.act) where
+  asked : (others : List Bool) (landed : Bool) (owner : ℕ) (resource : Resource) → IsFreeAsk (with_landings events others) owner resource (record { event = event; landed = landed })
+      → IsFreeAsk (none_landed events) owner resource (record { event = event; landed = false })
+  asked others landed owner resource just =
+      record { level = just.level; wait = just.wait; word = just.word; actor = just.actor; act = just.act; free = rw (← locks_landed events others) just.free }
+
+  go : (b : Bool) → IsAtRest (if b then record { event = event; landed = first_landing landings } ∷ with_landings events (earlier_landings landings) else record { event = event; landed = false } ∷ with_landings events landings)
+  go true = λ owner resource just. rests owner resource (asked (earlier_landings landings) (first_landing landings) owner resource just)
+  go false = λ owner resource just. rests owner resource (asked landings false owner resource just)
+
+pub rests_same : (journal : Recording) (landings : List Bool) → IsAtRest (recorded journal) → IsAtRest (history_of journal landings)
+rests_same journal landings rests = rests_landed (reverse journal.events) (reverse landings) rests
+
+-- And so is who is alive.
 alive_landed : (events : List Event) (landings : List Bool) (owner : ℕ) → is_alive (with_landings events landings) owner ≡ is_alive (none_landed events) owner
 alive_landed [] landings owner = refl
 alive_landed (event ∷ events) landings owner = go (is_failed_write event.act) (alive_landed events (earlier_landings landings) owner) (alive_landed events landings owner) where
@@ -42,7 +60,7 @@ alive_landed (event ∷ events) landings owner = go (is_failed_write event.act) 
 pub alive_same : (journal : Recording) (landings : List Bool) (owner : ℕ) → is_alive (history_of journal landings) owner ≡ is_alive (recorded journal) owner
 alive_same journal landings owner = alive_landed (reverse journal.events) (reverse landings) owner
 
--- an event that is no failed write
+-- An event that is no failed write.
 abbrev pub IsSteady : Event → Type 0
 IsSteady event = is_failed_write event.act ≡ false
 

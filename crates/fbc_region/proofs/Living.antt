@@ -34,11 +34,11 @@ nobody : (owners : List ℕ) → ((owner : ℕ) → has owners owner ≡ false) 
 nobody [] none = refl
 nobody (o ∷ owners) none = absurd (let there : (o == o) || has owners o ≡ false = none o in grind (arith, nat_tests, there))
 
--- where nobody is alive, nobody is in the list
+-- Where nobody is alive, nobody is in the list.
 pub none_living : (history : History) → ((owner : ℕ) → is_alive history owner ≡ false) → living history ≡ []
 none_living history none = nobody (living history) (λ owner. has_living history owner ∙ none owner)
 
--- without one there are no more, and fewer where it was among them
+-- Without one there are no more, and fewer where it was among them.
 pub fewer_all_but : (gone : ℕ) (owners : List ℕ) → length (all_but gone owners) ≤ length owners
 fewer_all_but gone [] = omega arith
 fewer_all_but gone (o ∷ owners) = go (o == gone) (fewer_all_but gone owners) where

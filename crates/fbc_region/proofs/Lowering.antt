@@ -23,7 +23,7 @@ use Rattle.fbc_region.proofs.Grown.{GoesOn, come_map, grants_follow, recorded_ad
 use Rattle.fbc_region.proofs.Keeping.{kept_still, room_still}
 use Rattle.fbc_region.proofs.Waiting.{few_wait}
 
--- with the request that the owner has, a lowering is the one of a history
+-- With the request that the owner has, a lowering is the one of a history.
 lower_found : (s : LockState) (owner : ℕ) (resource : Resource) (level : Level) (found : Option Request) → find (is_of owner resource) s.requests ≡ found
     → join (option_map_or (λ (r : Request). r.granted) found Free) level ≡ option_map_or (λ (r : Request). r.granted) found Free → level ≢ Free → entered s.requests owner resource 0 ≡ s.requests
 lower_found s owner resource level (Some r) is part some = rw is refl
@@ -65,7 +65,7 @@ pub come_lowered : (h : History) (s : LockState) (owner : ℕ) (resource : Resou
 come_lowered h s owner resource Free come = come_filter h (λ r. not (is_of owner resource r)) s.requests come
 come_lowered h s owner resource _ come = come_map h (with_granted owner resource _) (λ x. refl) (λ x. refl) s.requests come
 
--- after grants
+-- After grants.
 module _ (before after : Recording) (table later : LockState) (owners : ℕ) (resource : Resource) (grants : List Event) (k : IsKept before table owners) (lawful : IsLawful table)
     (adds : Adds before after grants) (are : GrantedOn resource table grants later) (used : before.spare + waits_in later ≤ after.spare + waits_in table) where
   goes : GoesOn table later (recorded before) (recorded after)
@@ -94,7 +94,7 @@ room_to_grant before table owners k lawful room = omega (arith, few_wait table (
 pub uses_both : (first second third : Recording) → UsesRoom first second 1 → UsesRoom second third 8 → UsesRoom first third 9
 uses_both first second third one eight n room = eight n (one (8 + n) (omega (arith, room)))
 
--- a lowering
+-- A lowering.
 module _ (before mid : Recording) (table : LockState) (owners owner : ℕ) (resource : Resource) (level : Level) (k : IsKept before table owners)
     (part : join (granted_of table owner resource) level ≡ granted_of table owner resource)
     (events : mid.events ≡ before.events ++ by owner (Lower resource level) ∷ []) (spare : mid.spare + 1 ≡ before.spare) where
@@ -109,7 +109,7 @@ module _ (before mid : Recording) (table : LockState) (owners owner : ℕ) (reso
   pub place_lowered : HasRoom before 9 → HasRoom mid 8
   place_lowered room = room_lowered 8 room
 
--- a step's own event and its grants together
+-- A step's own event and its grants together.
 pub adds_both : (before mid after : Recording) (own : Event) (grants : List Event) → mid.events ≡ before.events ++ own ∷ [] → mid.shape ≡ before.shape → Adds mid after grants → Adds before after (own ∷ grants)
 adds_both before mid after own grants events shape adds = record {
   longer = adds.longer ∙ ap (λ es. es ++ grants) events ∙ append_assoc before.events (own ∷ []) grants;
@@ -127,7 +127,7 @@ with_one_grant before mid after table later owner resource level is part events 
   are = (made.0, [], later, sym (append-nil made.0), subst (λ s. GrantedOn resource s made.0 later) (lowered_same table owner resource level part ∙ ap (λ s. lowered_to s owner resource level) is) made.2, refl);
 }
 
--- a lowering and its grants, as the ledger sees them
+-- A lowering and its grants, as the ledger sees them.
 module _ (given before mid after : Recording) (table later : LockState) (owners owner : ℕ) (resource : Resource) (level : Level) (seen : before ≡ given) (k : IsKept before table owners)
     (part : join (granted_of (locks_in given) owner resource) level ≡ granted_of (locks_in given) owner resource) (room : HasRoom given 9)
     (low : LockState) (is : low ≡ lowered table owner resource level)

@@ -40,7 +40,7 @@ use Rattle.fbc_region.proofs.Granting.{alive_apart, all_found, only_apart, resou
 use Rattle.fbc_region.proofs.Grown.{lengthened, step_apart}
 use Rattle.fbc_region.proofs.Purging.{lengthened_append}
 
--- where nobody is in the way of a level, what the others are granted goes beside it
+-- Where nobody is in the way of a level, what the others are granted goes beside it.
 pub beside_all : (w : World) → AreRequestsTrue w → (owner : ℕ) (resource : Resource) (level : Level) → holder_of w.locks owner resource level ≡ None → (other : ℕ) → other ≢ owner
     → is_compatible level (w.granted other resource) ≡ true
 beside_all w true_requests owner resource level none other apart =
@@ -97,7 +97,7 @@ module _ (shape : Shape) (file : View) (history : History) (ends : Ends shape fi
   pub ends_grant : Ends shape file (happens r.owner (Grant resource level) false ∷ history)
   ends_grant = ends_on shape file history r.owner (Grant resource level) false ends grant_meets (rests_after history r.owner (Grant resource level) false refl)
 
--- the grants on one resource
+-- The grants on one resource.
 pub record GrantsEnd (shape : Shape) (file : View) (later : LockState) (after : History) : Type 0 where
   pub ends : Ends shape file after
   pub locks : later ≡ locks_of after
@@ -112,7 +112,7 @@ module _ (shape : Shape) (file : View) where
       (ends_grant shape file history ends resource r level (rw is at next) waits)
       (rw is (step_apart (locks_of history) (apart-history history) resource r level (rw is at next) waits)))
 
-  -- the grants on several resources
+  -- The grants on several resources.
   pub are_end : (resources : List Resource) (s : LockState) (grants : List Event) → AreGrants resources s grants → (history : History) → Ends shape file history → s ≡ locks_of history
       → Ends shape file (lengthened history grants)
   are_end [] s grants are history ends is = rw are ends

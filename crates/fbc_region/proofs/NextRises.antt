@@ -9,21 +9,18 @@ use Rattle.fbc_kinds.specs.declared.pages.Page.TheVariants as kind
 use Rattle.fbc_kinds.specs.declared.pages.Relation.{Relation}
 use Rattle.fbc_kinds.specs.declared.shapes.Shape.{Shape}
 use Rattle.std.specs.Prelude.{length, nat_lt, ◌+◌, ◌++◌, option_and_then, slice_get, slice_set}
-use Rattle.fbc_kinds.specs.Edits.{applied, given, is_next, pointed, takes_page, with_entry}
+use Rattle.fbc_kinds.specs.Edits.{applied, is_next, pointed, takes_page, with_entry}
 use Rattle.fbc_kinds.specs.Limits.{inventory_limit, pointer_limit, tip_limit}
 use Rattle.fbc_kinds.specs.View.{header_in}
 use Rattle.fbc_legal.proofs.HeaderRanks.{is_format}
 use Rattle.fbc_world.specs.PageCell.{edited}
+use Rattle.fbc_page_edits.proofs.Fitted.{given_some}
 
 -- The next number of a page, 0 where it is no header.
 abbrev pub next_in : Option Page → ℕ
 next_in page = option_map_or (λ (h : Header). h.next) (header_in page) 0
 
-given_some : (test : Bool) (content after : Page) → given test content ≡ Some after → content ≡ after
-given_some true content after is = cc
-given_some false content after is = absurd cc
-
--- the edit sets a number that is not less
+-- The edit sets a number that is not less.
 abbrev pub IsNoLess : Edit → ℕ → Type 0
 IsNoLess (edit.SetNext number) before = before ≤ number
 IsNoLess _ before = Unit {0}
@@ -44,16 +41,16 @@ module _ (shape : Shape) where
 
     of_header : (e : Edit) (after : Page) → is_format e ≡ false → IsNoLess e header.next → applied shape e (kind.Header header) ≡ Some after → header.next ≤ next_in (Some after)
     of_header (edit.SetNext number) after plain less is =
-        rw (← given_some (is_next shape.size (length header.tips) number) (kind.Header (record header { next = number })) after is) less
+        rw (← (given_some (is_next shape.size (length header.tips) number) (kind.Header (record header { next = number })) after is).1) less
     of_header (edit.AddTip number) after plain less is =
-        rw (← given_some (takes_page tip_limit header.tips number) (kind.Header (record header { tips = header.tips ++ number ∷ [] })) after is) (omega arith)
+        rw (← (given_some (takes_page tip_limit header.tips number) (kind.Header (record header { tips = header.tips ++ number ∷ [] })) after is).1) (omega arith)
     of_header (edit.AddPointer relation number) after plain less is = pointer relation number after is
     of_header edit.AddInventory after plain less is =
-        rw (← given_some (nat_lt header.inventories inventory_limit) (kind.Header (record header { inventories = header.inventories + 1 })) after is) (omega arith)
+        rw (← (given_some (nat_lt header.inventories inventory_limit) (kind.Header (record header { inventories = header.inventories + 1 })) after is).1) (omega arith)
     of_header (edit.Format page_kind number relation sequence) after plain less is = absurd cc
     of_header _ after plain less is = absurd cc
 
-  -- an edit that is no format, and sets no less, leaves the next number or raises it
+  -- An edit that is no format, and sets no less, leaves the next number or raises it.
   pub next_rises : (e : Edit) (before : Option Page) (after : Page) → is_format e ≡ false → IsNoLess e (next_in before) → edited shape e before ≡ Some after → next_in before ≤ next_in (Some after)
   next_rises e None after plain less is = omega arith
   next_rises e (Some (kind.Header header)) after plain less is = of_header header e after plain less is

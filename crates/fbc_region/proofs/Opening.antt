@@ -1,5 +1,6 @@
 -- What a region keeps as it opens a file.
-use Rattle.std.proofs.Common.{◌≡◌, ◌∙◌, ap, ℕ, ◌≤◌, Bool, true, false, [], ◌∷◌, ◌++◌, length, sym, arith}
+use Rattle.std.proofs.Common.{◌≡◌, ◌∙◌, ap, ℕ, ◌≤◌, false, [], ◌∷◌, ◌++◌, length, sym, arith}
+use Rattle.std.proofs.lemmas.Bool.{both_ways}
 use Rattle.fbc_levels.specs.LockState.{LockState}
 use Rattle.fbc_legal.specs.Lives.{entered, living}
 use Rattle.fbc_world.specs.declared.events.Act.TheVariants.{Opened}
@@ -9,10 +10,6 @@ use Rattle.fbc_world.specs.Owners.{is_alive}
 use Rattle.fbc_region.specs.Kept.{IsKept}
 use Rattle.fbc_region.proofs.Living.{none_living}
 use Rattle.fbc_region.proofs.Pushed.{recorded_push}
-
-not_both : (b : Bool) → b ≡ false → b ≡ true → ⊥
-not_both true is isnt = cc
-not_both false is isnt = cc
 
 pub opened_kept : (before after : Recording) (locks owners : ℕ) (table : LockState) → ((owner : ℕ) → is_alive (recorded before) owner ≡ false)
     → after.events ≡ before.events ++ record { actor = 0; act = Opened locks } ∷ [] → table ≡ record { capacity = locks; requests = [] }
@@ -28,5 +25,5 @@ opened_kept before after locks owners table none is empty count within =
       few = omega (arith, few);
       aside = omega (arith, few);
       come = rw empty tt;
-      living_came = λ owner alive. absurd (not_both _ (ap (λ h. is_alive h owner) whole ∙ none_after owner) alive);
+      living_came = λ owner alive. absurd (both_ways _ (ap (λ h. is_alive h owner) whole ∙ none_after owner) alive);
     }

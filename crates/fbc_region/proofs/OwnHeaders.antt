@@ -32,7 +32,7 @@ next_for owner kept draft = next_in (page_for owner kept draft)
 abbrev pub NextGrows : Option Page → Option Draft → Type 0
 NextGrows kept draft = next_in kept ≤ next_in (newest_in kept draft)
 
--- what an owner has is no less than what the file has
+-- What an owner has is no less than what the file has.
 pub next_kept : (owner : ℕ) (kept : Option Page) (draft : Option Draft) → NextGrows kept draft → next_in kept ≤ next_for owner kept draft
 next_kept owner kept None grows = omega arith
 next_kept owner kept (Some draft) grows = go (draft.owner == owner) where
@@ -40,7 +40,7 @@ next_kept owner kept (Some draft) grows = go (draft.owner == owner) where
   go true = grows
   go false = omega arith
 
--- without the draft of another, who has none of its own has the same
+-- Without the draft of another, who has none of its own has the same.
 other_dies : (owner other : ℕ) (kept : Option Page) (draft : Option Draft) → other ≢ owner → page_for owner kept (without other draft) ≡ page_for owner kept draft
 other_dies owner other kept None apart = refl
 other_dies owner other kept (Some draft) apart = go (draft.owner == other) refl where
@@ -55,7 +55,7 @@ grows_dead other kept (Some draft) grows = go (draft.owner == other) where
   go true = omega arith
   go false = grows
 
--- a draft that is written
+-- A draft that is written.
 grows_written : (actor : ℕ) (kept : Option Page) (draft : Option Draft) → is_draft_of actor draft ≡ true → NextGrows (page_for actor kept draft) (without actor draft)
 grows_written actor kept None its = absurd cc
 grows_written actor kept (Some draft) its = rw its (omega arith)
@@ -68,7 +68,7 @@ next_written owner actor kept (Some draft) grows its = rw its (go (draft.owner =
   go true = omega arith
   go false = grows
 
--- an act by which its actor dies
+-- An act by which its actor dies.
 abbrev pub is_last : Act → Bool
 is_last Die = true
 is_last (Write page reason failed) = failed
@@ -154,7 +154,7 @@ module _ (at : Scene) (x : IsCoherent at.world) (grows : NextGrows (at.world.kep
     go true is = next_written owner actor (w.kept 0) (w.draft 0) grows (subst (λ p. is_draft_of actor (w.draft p) ≡ true) (grind (arith, nat_tests, is)) its)
     go false is = omega arith
 
-  -- after each act a draft of the header has no smaller next number than the file
+  -- After each act a draft of the header has no smaller next number than the file.
   pub grows_acted : (act : Act) (landed : Bool) → Guard at actor act → GrowsAfter act landed
   grows_acted Die landed g = grows_dead actor (w.kept 0) (w.draft 0) grows
   grows_acted (Write page reason true) true g = grows_dead actor (if 0 == page then page_for actor (w.kept 0) (w.draft 0) else w.kept 0) (if 0 == page then without actor (w.draft 0) else w.draft 0) (grows_write page g.drafted)
@@ -166,7 +166,7 @@ module _ (at : Scene) (x : IsCoherent at.world) (grows : NextGrows (at.world.kep
   grows_acted (Local (local.Unpin page)) landed g = grows
   grows_acted _ landed g = grows
 
-  -- what an owner has rises or stays, unless the owner dies
+  -- What an owner has rises or stays, unless the owner dies.
   pub next_acted : (owner : ℕ) (act : Act) (landed : Bool) → Guard at actor act → (is_last act ≡ true → actor ≢ owner)
       → next_for owner (w.kept 0) (w.draft 0) ≤ next_for owner ((acted at.shape w actor act landed).kept 0) ((acted at.shape w actor act landed).draft 0)
   next_acted owner Die landed g lives = omega (arith, ap next_in (other_dies owner actor (w.kept 0) (w.draft 0) (lives refl)))
@@ -184,7 +184,7 @@ module _ (at : Scene) (x : IsCoherent at.world) (grows : NextGrows (at.world.kep
   next_acted owner (Local (local.Unpin page)) landed g lives = omega arith
   next_acted owner _ landed g lives = omega arith
 
--- after each legal history
+-- After each legal history.
 pub grows_legal : (shape : Shape) (file : View) (history : History) → IsLegal shape file history → NextGrows ((world_of shape file history).kept 0) ((world_of shape file history).draft 0)
 grows_legal shape file [] legal = omega arith
 grows_legal shape file (moment ∷ before) legal =

@@ -16,7 +16,7 @@ use Rattle.fbc_world.specs.declared.events.Act.{Act}
 use Rattle.fbc_world.specs.declared.events.Act.TheVariants.{Die, Grant, Local, Write}
 use Rattle.fbc_world.specs.declared.events.LocalEvent.TheVariants as local
 use Rattle.fbc_world.specs.History.{History}
-use Rattle.fbc_world.specs.Holdings.{page_resource}
+use Rattle.fbc_levels.specs.Resources.{page_resource}
 use Rattle.fbc_world.specs.PageCell.{newest_in}
 use Rattle.fbc_world.specs.World.{World, acted, is_begin, is_mark_on, is_number_of, mark_after_edit, page_after, transaction_after_edit, world_of}
 use Rattle.fbc_legal.specs.Coherent.{IsCoherent}
@@ -65,7 +65,7 @@ module _ (at : Scene) (x : IsCoherent at.world) (grows : NextGrows (at.world.kep
   abbrev w : World
   w = at.world
 
-  -- what an edit leans on of the next number its owner has in its header
+  -- What an edit leans on of the next number its owner has in its header.
   pub shown_below : (number page : ℕ) (e : Edit) → GuardOfEdit at actor page e → IsShown at actor page 0 (HasNextAbove number) → number < next_for actor (w.kept 0) (w.draft 0)
   shown_below number page e g shown = go shown.in_time where
     in_newest : number < next_in (newest_in (w.kept 0) (w.draft 0))

@@ -12,17 +12,17 @@ use Rattle.fbc_levels.specs.declared.levels.Level.TheVariants.{Ex}
 use Rattle.fbc_lock_table.specs.declared.answers.Asked.TheVariants.{Granted}
 use Rattle.fbc_lock_table.specs.Answers.{answer_to_ask}
 use Rattle.fbc_legal.specs.Guards.{Guard}
-use Rattle.fbc_legal.specs.Legal.{Follows, IsGrantOf, IsLegal}
+use Rattle.fbc_legal.specs.Legal.{ComesNext, IsGrantOf, IsLegal}
 use Rattle.fbc_legal.specs.Scene.{Scene, number_resource, scene_of}
 use Rattle.fbc_legal.proofs.Exclusion.{same_number}
 use Rattle.fbc_legal.proofs.Induction.{IsCoherent-legal}
+use Rattle.fbc_legal.proofs.Ranked.{granted_next}
 use Rattle.fbc_world.specs.declared.events.Act.{Act}
 use Rattle.fbc_world.specs.declared.events.Act.TheVariants.{Ask, Die, Grant, Local, Write}
 use Rattle.fbc_world.specs.declared.events.LocalEvent.TheVariants as local
 use Rattle.fbc_world.specs.History.{History, Moment}
 use Rattle.fbc_world.specs.Locks.{locks_of}
 use Rattle.fbc_world.specs.World.{World, acted, is_begin, is_mark_on, is_number_of, newest_of, page_after, transaction_after_edit}
-use Rattle.fbc_region.proofs.BeginsTold.{granted_next}
 use Rattle.fbc_region.proofs.OwnHeaders.{grows_legal, is_last, next_acted, next_for}
 use Rattle.fbc_region.proofs.OwnMarks.{IsMarkBelow, marks_legal, shown_below}
 
@@ -45,8 +45,8 @@ IsOpenAs w owner number = (t : Transaction) × (w.transaction owner ≡ Some t) 
 abbrev pub IsKnown : World → History → ℕ → ℕ → Type 0
 IsKnown w past owner number = (number < next_for owner (w.kept 0) (w.draft 0)) ⊎ IsOpenAs w owner number ⊎ HasJustBegun past owner number
 
--- a begin that was granted stands open
-pub begins_number : (before : History) (moment : Moment) (owner number : ℕ) → Follows before moment → HasJustBegun before owner number → IsGrantOf owner (number_resource number) Ex moment
+-- A begin that was granted stands open.
+pub begins_number : (before : History) (moment : Moment) (owner number : ℕ) → ComesNext before moment → HasJustBegun before owner number → IsGrantOf owner (number_resource number) Ex moment
 begins_number [] moment owner number follows just = absurd just
 begins_number (last ∷ rest) moment owner number follows just =
     granted_next rest owner (number_resource number) Ex last.event.actor last.event.act just.wait just.word moment just.actor just.act just.free follows
@@ -78,7 +78,7 @@ module _ (shape : Shape) (file : View) (before : History) (legal : IsLegal shape
   mark_told (Some marked) t None is page here below = absurd cc
   mark_told (Some marked) t (Some other) is page here below = let same : other ≡ t = cc in subst (λ u. u.number < now) same below
 
-  -- an open transaction stays open, or its number was given out
+  -- An open transaction stays open, or its number was given out.
   abbrev Stays : Transaction → Act → Type 0
   Stays t act = ((After act).transaction owner ≡ Some t) ⊎ (t.number < now)
 

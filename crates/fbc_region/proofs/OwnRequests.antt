@@ -49,7 +49,7 @@ module _ (owner : ℕ) (resource : Resource) where
   had_filter : (q : Request → Bool) (rs : List Request) → Had (filter q rs) rs
   had_filter q rs = any_filter (is_of owner resource) q rs
 
-  -- a request is entered where there is one already
+  -- A request is entered where there is one already.
   had_there : (rs : List Request) (o : ℕ) (r : Resource) (word : ℕ) → is_some (find (is_of o r) rs) ≡ true → entered rs o r word ≡ rs
   had_there rs o r word there = rw there refl
 
@@ -75,7 +75,7 @@ module _ (owner : ℕ) (resource : Resource) where
       → (has_in rs owner resource ≡ true) ⊎ ((o ≡ owner) × (r ≡ resource))
   had_queued rs o r level word is = had_entered rs o r word (had_map (with_waiting o r level) (λ x here. here) (entered rs o r word) is)
 
-  -- an ask that is withdrawn at once enters nothing
+  -- An ask that is withdrawn at once enters nothing.
   had_withdrawn : (s : LockState) (o : ℕ) (r : Resource) (level : Level) (word : ℕ) → has_in (withdrawn (after_ask s o r level word Queued) o).requests owner resource ≡ true → has_in s.requests owner resource ≡ true
   had_withdrawn s o r level word is =
       go (is_some (find (is_of o r) s.requests)) (any_mapped stays stays_too (with_waiting o r level) (λ x here. here) (entered s.requests o r word) (kept_any (map (with_waiting o r level) (entered s.requests o r word)) (had_map (without_wait o) (λ x here. here) _ is))) where
@@ -109,7 +109,7 @@ module _ (owner : ℕ) (resource : Resource) where
               alone : (a b : Bool) → b ≡ false → a || (b || false) ≡ true → a ≡ true
               alone a b none is' = grind (arith, none, is')
 
-  -- where a request is there, no new one is entered
+  -- Where a request is there, no new one is entered.
   waits_there : (s : LockState) (o : ℕ) (r : Resource) (level : Level) → waiting_of s o r ≡ Some level → is_some (request_of s o r) ≡ true
   waits_there s o r level is = go (request_of s o r) is where
     go : (found : Option Request) → option_and_then (λ (x : Request). x.waiting) found ≡ Some level → is_some found ≡ true

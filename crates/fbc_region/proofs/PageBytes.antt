@@ -12,29 +12,9 @@ use Rattle.fbc_kinds.specs.Padding.{padded}
 use Rattle.fbc_kinds.specs.View.{View}
 use Rattle.fbc_legal.proofs.Exclusion.{same_number}
 use Rattle.fbc_outside.specs.Bytes.{written}
+use Rattle.fbc_files.proofs.PageWrites.{page_elsewhere, page_there}
 
--- a page before or behind
-apart : (size at from : ℕ) (image bytes : List ℕ) → length image ≡ size → (at + size ≤ from) ⊎ (from + size ≤ at) → padded size (take size (drop at (written from image bytes))) ≡ padded size (take size (drop at bytes))
-apart size at from image bytes fits (inl before) = same_lists _ _ (search (rules, places)) (λ k d h. grind (arith, places))
-apart size at from image bytes fits (inr behind) = same_lists _ _ (search (rules, places)) (λ k d h. grind (arith, places))
-
-pages_apart : (size number other : ℕ) → other ≢ number → (other * size + size ≤ number * size) ⊎ (number * size + size ≤ other * size)
-pages_apart size number other differ =
-    elim (cases_lt other number) [
-      | inl before ↦ inl (omega (arith, mul-le-mul_left size (next other number before), mul_comm size (other + 1), mul_comm size number))
-      | inr not_before ↦ inr (omega (arith, mul-le-mul_left size (next number other (omega arith)), mul_comm size (number + 1), mul_comm size other))
-    ]
-  where
-    next : (m n : ℕ) → m < n → m + 1 ≤ n
-    next m n below = omega arith
-
-elsewhere : (size number other : ℕ) (image bytes : List ℕ) → length image ≡ size → other ≢ number → page_bytes size (written (number * size) image bytes) other ≡ page_bytes size bytes other
-elsewhere size number other image bytes fits differ = apart size (other * size) (number * size) image bytes fits (pages_apart size number other differ)
-
-there : (size number : ℕ) (image bytes : List ℕ) → length image ≡ size → page_bytes size (written (number * size) image bytes) number ≡ image
-there size number image bytes fits = same_lists _ _ (search (rules, places)) (λ k d h. grind (arith, places))
-
--- the bytes show the page that is written, and the others as before
+-- The bytes show the page that is written, and the others as before.
 pub shows_written : (shape : Shape) (number : ℕ) (page : Page) (image bytes : List ℕ) (view : View) → length image ≡ shape.size → ShowsPage shape number image page → IsViewOf shape bytes view
     → (other : ℕ) → Shows shape other (page_bytes shape.size (written (number * shape.size) image bytes) other) (if other == number then Some page else view other)
 shows_written shape number page image bytes view fits shows is other = either (other == number) refl where
@@ -44,5 +24,5 @@ shows_written shape number page image bytes view fits shows is other = either (o
   either : (b : Bool) → other == number ≡ b → Shows shape other (page_bytes shape.size (written (number * shape.size) image bytes) other) (if b then Some page else view other)
   either true same =
       let here : other ≡ number = same_number other number same in
-      rw (here, there shape.size number image bytes fits) shows
-  either false differ = rw (elsewhere shape.size number other image bytes fits (apart_test differ)) (is other)
+      rw (here, page_there shape.size number image bytes fits) shows
+  either false differ = rw (page_elsewhere shape.size number other image bytes fits (apart_test differ)) (is other)

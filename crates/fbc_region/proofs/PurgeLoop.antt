@@ -15,7 +15,7 @@ use Rattle.fbc_region.specs.Granting.{GrantedOn, Purged, goes, is_live_wait, ove
 use Rattle.fbc_region.proofs.Purging.{next_resources}
 use Rattle.fbc_region.proofs.Shadow.{dead_stays, resources_stay}
 
--- the grants so far, and that those still to come follow them
+-- The grants so far, and that those still to come follow them.
 pub record PurgedSoFar (dead : ℕ) (first : LockState) (before : Recording) (now : LockState) (journal : Recording) : Type 0 where
   pub grants : List Event
   pub adds : Adds before journal grants
@@ -29,7 +29,7 @@ pub record Purging (dead : ℕ) (first : LockState) (before : Recording) (now : 
   pub used : before.spare + waits_in now ≤ journal.spare + waits_in first
   pub so_far : PurgedSoFar dead first before now journal
 
--- the first request, as a call of the queues took it away
+-- The first request, as a call of the queues took it away.
 pub record IsFirst (s : LockState) (dead : ℕ) (resource : Resource) (after : LockState) : Type 0 where
   pub request : Request
   pub first : first_of s dead ≡ Some request
@@ -50,7 +50,7 @@ is_over s dead after answer is = go (first_of s dead) answer is where
   go None answer' is' = (refl, is')
   go (Some r) answer' is' = absurd cc
 
--- with fewer requests no more wait
+-- With fewer requests no more wait.
 no_more_wait : (q : Request → Bool) (rs : List Request) → length (filter is_live_wait (filter q rs)) ≤ length (filter is_live_wait rs)
 no_more_wait q [] = omega arith
 no_more_wait q (r ∷ rs) = go (q r) (is_live_wait r) refl (no_more_wait q rs) where
@@ -68,7 +68,7 @@ module _ (dead : ℕ) (first : LockState) (before : Recording) (now : LockState)
   pub purging_room : (resource : Resource) (after : LockState) → IsFirst now dead resource after → waits_in after ≤ journal.spare
   purging_room resource after f = omega (arith, ap waits_in f.after_is, waits_without now f.request.owner f.request.resource, p.room)
 
-  -- one request less
+  -- One request less.
   module _ (resource : Resource) (after later : LockState) (longer : Recording) (f : IsFirst now dead resource after) (gone_dead : IsDead after dead)
       (made : (grants : List Event) × Adds journal longer grants × GrantedOn resource after grants later) where
     granted_here : GrantedOn f.request.resource (without now f.request.owner f.request.resource) made.0 later

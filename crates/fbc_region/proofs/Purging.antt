@@ -23,7 +23,7 @@ pub lengthened_append : (h : History) (first rest : List Event) → lengthened h
 lengthened_append h [] rest = refl
 lengthened_append h (event ∷ first) rest = lengthened_append (record { event = event; landed = false } ∷ h) first rest
 
--- what is found first
+-- What is found first.
 by_owner : (dead : ℕ) (rs : List Request) (r : Request) → find (is_by dead) rs ≡ Some r → r.owner ≡ dead
 by_owner dead [] r is = absurd cc
 by_owner dead (x ∷ rs) r is = go (x.owner == dead) refl is (by_owner dead rs r) where
@@ -31,7 +31,7 @@ by_owner dead (x ∷ rs) r is = go (x.owner == dead) refl is (by_owner dead rs r
   go true same is' rest = let here : x ≡ r = cc in ap (λ (y : Request). y.owner) (sym here) ∙ grind (arith, nat_tests, same)
   go false same is' rest = rest is'
 
--- a request of another resource stays where the one for this resource goes
+-- A request of another resource stays where the one for this resource goes.
 keeps_other : (r x : Request) → (x.owner ≡ r.owner → x.resource ≢ r.resource) → is_of r.owner r.resource x ≡ false
 keeps_other r x apart = go (x.owner == r.owner) refl (is_same_resource x.resource r.resource) refl where
   go : (a : Bool) → x.owner == r.owner ≡ a → (b : Bool) → is_same_resource x.resource r.resource ≡ b → a && b ≡ false
@@ -46,7 +46,7 @@ keeps_all r (x ∷ rs) all = rw (keeps_other r x (λ same alike. all.0 (sym same
 abbrev kept : Request → List Request → List Request
 kept r rs = filter (λ x. not (is_of r.owner r.resource x)) rs
 
--- the owner's other requests come behind the first
+-- The owner's other requests come behind the first.
 rest_of : (dead : ℕ) (rs : List Request) (r : Request) → AllPairs AreApart rs → find (is_by dead) rs ≡ Some r
     → map (λ (x : Request). x.resource) (filter (is_by dead) rs) ≡ r.resource ∷ map (λ (x : Request). x.resource) (filter (is_by dead) (kept r rs))
 rest_of dead [] r apart is = absurd cc
@@ -102,7 +102,7 @@ module _ (dead : ℕ) where
     go true is rest = rest
     go false is rest = (apart is, rest)
 
-  -- what a purge comes to for the requests without those of the dead owner
+  -- What a purge comes to for the requests without those of the dead owner.
   pub record Comes (s later : LockState) (h : History) (grants : List Event) : Type 0 where
     pub are : AreGrants (resources_of s dead) (without_owner s dead) grants
     pub goes : GoesOn (without_owner s dead) later h (lengthened h grants)

@@ -35,7 +35,7 @@ module _ (given before mid after : Recording) (table later : LockState) (owners 
   room_here : HasRoom before 9
   room_here = subst (λ j. HasRoom j 9) (sym seen) room
 
-  -- as if all that the dead owner left went at once
+  -- As if all that the dead owner left went at once.
   kept_mid : IsKept mid (without_owner table dead) owners
   kept_mid =
       kept_still before mid owner (Reap dead ask) refl events table (without_owner table dead) owners k spare (omega (arith, room_here)) refl

@@ -23,7 +23,7 @@ use Rattle.fbc_world.proofs.WorldLaws.{IsReplayed-world}
 use Rattle.fbc_region.specs.Kept.{IsOfCome}
 use Rattle.fbc_region.proofs.Fated.{come_legal}
 
--- what holds of all that pass holds of the least of them
+-- What holds of all that pass holds of the least of them.
 chosen : (P : Request → Type 0) (p : Request → Bool) (rs : List Request) (r : Request) → All P rs → reduce lesser (filter p rs) ≡ Some r → P r
 chosen P p rs r all is = subst (λ o. IfSome o P) is (reduce-chosen P (filter p rs) (All-filter p P rs all))
 
@@ -49,7 +49,7 @@ module _ (shape : Shape) (file : View) (history : History) (legal : IsLegal shap
   not_alive : (r : Request) → is_dead r ≡ true → r.alive ≡ false
   not_alive r is = grind (arith, is)
 
-  -- the holder that an ask names
+  -- The holder that an ask names.
   named_beside : (wait : Bool) (holder : Request) → answer_beside wait (Some holder) ≡ asked.Dead dead → (holder.alive ≡ false) × (holder.owner ≡ dead)
   named_beside wait holder is = go holder.alive refl is where
     go : (b : Bool) → holder.alive ≡ b → (if not b then asked.Dead holder.owner else (if wait then asked.Queued else asked.Busy holder.owner holder.granted)) ≡ asked.Dead dead
@@ -79,7 +79,7 @@ module _ (shape : Shape) (file : View) (history : History) (legal : IsLegal shap
           in_way = IsInWayOfAsk.holds holder (rw locks_is room) (rw locks_is at_holder) named.1;
         }
 
-  -- the holder that a look names
+  -- The holder that a look names.
   named_waiting : (holder : Request) → answer_to_waiter (Some holder) ≡ looked.Dead dead → (holder.alive ≡ false) × (holder.owner ≡ dead)
   named_waiting holder is = go holder.alive refl is where
     go : (b : Bool) → holder.alive ≡ b → (if b then looked.NotYet holder.owner else looked.Dead holder.owner) ≡ looked.Dead dead → (holder.alive ≡ false) × (holder.owner ≡ dead)

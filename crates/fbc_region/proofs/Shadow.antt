@@ -51,11 +51,11 @@ filter_map_same q f same (x ∷ rs) = rw (same x) (go (q x) (filter_map_same q f
   go true rest = rw rest refl
   go false rest = rest
 
--- whether a request is of another than this owner
+-- Whether a request is of another than this owner.
 abbrev is_others : ℕ → Request → Bool
 is_others dead r = not (r.owner == dead)
 
--- a request for the resource is of another
+-- A request for the resource is of another.
 abbrev pub NotOn : ℕ → Resource → Request → Type 0
 NotOn dead resource r = is_same_resource r.resource resource ≡ true → r.owner == dead ≡ false
 
@@ -104,7 +104,7 @@ module _ (dead : ℕ) (resource : Resource) where
   grant_commutes : (s : LockState) (o : ℕ) (res : Resource) → without_owner (after_grant s o res) dead ≡ after_grant (without_owner s dead) o res
   grant_commutes s o res = ap (λ rs. record s { requests = rs }) (filter_map_same (is_others dead) (granting o res) (λ x. refl) s.requests)
 
-  -- the grants are the same without the owner
+  -- The grants are the same without the owner.
   pub without_too : (s later : LockState) (grants : List Event) → GrantedOn resource s grants later → AllByRecursion (NotOn dead resource) s.requests
       → GrantedOn resource (without_owner s dead) grants (without_owner later dead)
   without_too _ _ _ (ended s later grants none same empty) all =
@@ -114,7 +114,7 @@ module _ (dead : ℕ) (resource : Resource) where
       (subst (λ t. GrantedOn resource t rest (without_owner later dead)) (grant_commutes s r.owner r.resource)
       (without_too (after_grant s r.owner r.resource) later rest more (not_on_map r.owner r.resource s.requests all)))
 
--- what an owner has requests for stays through grants, as whether it is dead
+-- What an owner has requests for stays through grants, as whether it is dead.
 resources_same : (owner : ℕ) (o : ℕ) (res : Resource) (rs : List Request) → map (λ (r : Request). r.resource) (filter (is_by owner) (map (granting o res) rs)) ≡ map (λ (r : Request). r.resource) (filter (is_by owner) rs)
 resources_same owner o res rs = ap (map (λ (r : Request). r.resource)) (filter_map_same (is_by owner) (granting o res) (λ x. refl) rs) ∙ go (filter (is_by owner) rs) where
   go : (xs : List Request) → map (λ (r : Request). r.resource) (map (granting o res) xs) ≡ map (λ (r : Request). r.resource) xs

@@ -42,19 +42,19 @@ pub calm_steady : (events : List Event) → AllByRecursion IsCalm events → All
 calm_steady [] calm = tt
 calm_steady (event ∷ events) calm = (steady_act event.act calm.0, calm_steady events calm.1)
 
--- a step that writes nothing leaves the device as it is
+-- A step that writes nothing leaves the device as it is.
 pub pages_calm : (size : ℕ) (bytes now : Option (List ℕ)) (landings landings_now : List Bool) (image image_now : List ℕ) (answer : Answer) (asked : Ask) → is_write_ask asked ≡ false
     → PagesComeTo size bytes now landings landings_now image image_now answer asked → (now ≡ bytes) × (landings_now ≡ landings)
 pages_calm size bytes now landings landings_now image image_now answer (ask.Read page) other come = (come.1, come.2)
 pages_calm size bytes now landings landings_now image image_now answer (ask.Write page cause) other come = absurd cc
 pages_calm size bytes now landings landings_now image image_now answer _ other come = (come.0, come.1)
 
--- what a page shows stands under its number
+-- What a page shows stands under its number.
 pub stands_shown : (shape : Shape) (number : ℕ) (bytes : List ℕ) (page : Option Page) → Shows shape number bytes page → Stands number page
 stands_shown shape number bytes None shows = tt
 stands_shown shape number bytes (Some page) shows = shows.stands
 
--- the page as its owner has it, with what it spells
+-- The page as its owner has it, with what it spells.
 pub record IsImage (shape : Shape) (number : ℕ) (image : List ℕ) (page : Option Page) : Type 0 where
   pub content : Page
   pub is : page ≡ Some content
@@ -64,7 +64,7 @@ pub is_image : (shape : Shape) (number : ℕ) (image : List ℕ) (page : Option 
 is_image shape number image None spells stands = absurd spells
 is_image shape number image (Some page) spells stands = record { content = page; is = refl; shows = record { spelled = spells; stands = stands } }
 
--- the write of an owner's page
+-- The write of an owner's page.
 module _ (shape : Shape) (w : World) (who page : ℕ) (bytes image : List ℕ) (fits : length image ≡ shape.size) (shown : IsViewOf shape bytes w.kept) (it : IsImage shape page image (page_for who (w.kept page) (w.draft page))) where
   abbrev after_write : View
   after_write number = if number == page then page_for who (w.kept number) (w.draft number) else w.kept number

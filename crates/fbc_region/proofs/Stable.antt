@@ -20,7 +20,7 @@ use Rattle.fbc_region.specs.Shared.{HasReserved, HasRoom}
 use Rattle.fbc_region.specs.Stepping.{MayPerform, MeetsConditions, recorded_scene}
 use Rattle.fbc_region.proofs.Grown.{SameLives, lengthened, recorded_adds}
 
--- locks, lives and names stay
+-- Locks, lives and names stay.
 pub record Leaves (h later : History) : Type 0 where
   pub locks : locks_of later ≡ locks_of h
   pub same : SameLives h later
@@ -100,11 +100,11 @@ module _ (before mid : Recording) (who : ℕ) (events : List LocalEvent) (adds :
   may_too reach size ask.Least may = (alive_too may.0, tt)
   may_too reach size (ask.Note reply) may = (alive_too may.0, tt)
 
--- what uses little room uses no more than a step may
+-- What uses little room uses no more than a step may.
 pub uses_upto : (given after before : Recording) (used : ℕ) → used ≤ 9 → before ≡ given → UsesRoom before after used → UsesRoom given after 9
 uses_upto given after before used few seen uses = subst (λ j. UsesRoom j after 9) seen (λ n room. uses n (omega (arith, few, room)))
 
--- a reserved step is enough for what it adds
+-- A reserved step is enough for what it adds.
 pub step_room : (before mid : Recording) (count : ℕ) → count ≤ 64 → UsesRoom before mid count → HasReserved before 1 → HasRoom mid 9
 step_room before mid count few uses room = uses 9 (omega (arith, few, room))
 

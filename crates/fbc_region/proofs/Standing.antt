@@ -52,7 +52,7 @@ module _ (shape : Shape) (number : ℕ) where
   applied_stands (edit.Format page_kind page relation sequence) before after plain stands is = absurd cc
   applied_stands e before after plain stands is = absurd cc
 
-  -- a page that is made stands under the number that it carries
+  -- A page that is made stands under the number that it carries.
   formatted_stands : (page_kind relation sequence : ℕ) (after : Page) → formatted shape page_kind number relation sequence ≡ Some after → stands_under number after ≡ true
   formatted_stands page_kind relation sequence after is = go (page_kind == 2) (page_kind == 3) (page_kind == 4) (page_kind == 5) is where
     self : number == number ≡ true

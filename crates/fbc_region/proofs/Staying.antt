@@ -16,6 +16,7 @@ use Rattle.fbc_world.specs.Owners.{is_alive}
 use Rattle.fbc_world.specs.PageCell.{page_for}
 use Rattle.fbc_world.specs.World.{world_of}
 use Rattle.fbc_region.specs.Adding.{Adds, by}
+use Rattle.fbc_region.specs.Kept.{IsAtRest}
 use Rattle.fbc_region.specs.Lawful.{AreLandings, IsLawfulOver, MeetsStep, ShowsView, new_landings, with_locals}
 use Rattle.fbc_region.specs.Shared.{history_of, is_failed_write}
 use Rattle.fbc_region.specs.Stepping.{PagesComeTo, Performs, WriteLeaves, answers_write}
@@ -23,19 +24,20 @@ use Rattle.fbc_region.proofs.Calm.{calm_step, is_write, is_write_ask, kept_acted
 use Rattle.fbc_region.proofs.DraftsStand.{own_stands, stands_legal}
 use Rattle.fbc_region.proofs.Ending.{Ends, ends_locals}
 use Rattle.fbc_region.proofs.Grown.{lengthened}
-use Rattle.fbc_region.proofs.Landed.{history_adds, history_failed, history_push}
+use Rattle.fbc_region.proofs.Landed.{history_adds, history_failed, history_push, rests_same}
 use Rattle.fbc_region.proofs.LivesEnding.{ends_died, ends_opened}
 use Rattle.fbc_region.proofs.Showing.{IsImage, calm_steady, is_image, none_new, one_new, pages_calm, stands_shown, view_after}
 use Rattle.fbc_region.proofs.StepsLegal.{ends_performed, past_locals}
 
-module _ (size : ℕ) (before after : Recording) (file : View) (landings landings_before landings_now : List Bool) (who : ℕ) (events : List LocalEvent) (answer : Answer) (image image_now : List ℕ) (fits : length image ≡ size) where
+module _ (size : ℕ) (before after : Recording) (file : View) (landings landings_before landings_now : List Bool) (who : ℕ) (events : List LocalEvent) (answer : Answer) (image image_now : List ℕ) (fits : length image ≡ size)
+    (rests : IsAtRest (recorded before)) where
   abbrev h : History
   h = history_of before landings
 
   abbrev past : History
   past = with_locals h who events
 
-  -- a step that writes nothing
+  -- A step that writes nothing.
   calmly : (bytes now : Option (List ℕ)) (asked : Ask) → is_write_ask asked ≡ false → IsLawfulOver size bytes before file landings → MeetsStep before file landings who events image asked
       → Performs before after who events answer asked → PagesComeTo size bytes now landings_before landings_now image image_now answer asked
       → IsLawfulOver size now after file (landings ++ new_landings landings_before landings_now)
@@ -45,7 +47,7 @@ module _ (size : ℕ) (before after : Recording) (file : View) (landings landing
       let none : new_landings landings_before landings_now ≡ [] = none_new landings_before landings_now same.1 in
       let shape_is : after.shape ≡ before.shape = calm.adds.shape ∙ done.local.shape in
       let ends : Ends after.shape file (history_of after (landings ++ [])) =
-      ends_performed before after file landings [] who events answer asked (record { legal = lawful.legal; rests = lawful.rests }) meets.guards done (no_landing_there answer calm.faultless) in
+      ends_performed before after file landings [] who events answer asked (record { legal = lawful.legal; rests = rests_same before landings rests }) meets.guards done (no_landing_there answer calm.faultless) in
       let whole : history_of after (landings ++ []) ≡ lengthened past calm.events =
       ap (history_of after) (append-nil landings) ∙ history_adds done.between after calm.events landings calm.adds.longer (calm_steady calm.events calm.calm)
       ∙ ap (λ g. lengthened g calm.events) (past_locals before done.between landings who events done.local) in
@@ -53,13 +55,12 @@ module _ (size : ℕ) (before after : Recording) (file : View) (landings landing
       ap (λ g. (world_of before.shape file g).kept) whole ∙ kept_lengthened before.shape file past calm.events calm.calm ∙ kept_locals before.shape file h who events in
       subst (λ new. IsLawfulOver size now after file (landings ++ new)) (sym none) (record {
         legal = ends.legal;
-        rests = ends.rests;
         sized = lawful.sized ∙ sym (ap (λ (s : Shape). s.size) shape_is);
         shown = subst (λ s. ShowsView s now (world_of s file (history_of after (landings ++ []))).kept) (sym shape_is)
             (subst (ShowsView before.shape now) (sym kept_is) (subst (λ b. ShowsView before.shape b (world_of before.shape file h).kept) (sym same.0) lawful.shown));
       })
 
-  -- a write
+  -- A write.
   module _ (bytes : List ℕ) (page : ℕ) (cause : Cause) (lawful : IsLawfulOver size (Some bytes) before file landings) (meets : MeetsStep before file landings who events image (ask.Write page cause))
       (done : Performs before after who events answer (ask.Write page cause)) where
     abbrev shape : Shape
@@ -69,7 +70,7 @@ module _ (size : ℕ) (before after : Recording) (file : View) (landings landing
     shown_here = subst (IsViewOf shape bytes) (sym (kept_locals shape file h who events)) lawful.shown
 
     legal_here : Ends shape file past
-    legal_here = ends_locals shape file h who events (record { legal = lawful.legal; rests = lawful.rests }) meets.guards.local
+    legal_here = ends_locals shape file h who events (record { legal = lawful.legal; rests = rests_same before landings rests }) meets.guards.local
 
     it : IsImage shape page image (page_for who ((world_of shape file past).kept page) ((world_of shape file past).draft page))
     it =
@@ -84,12 +85,11 @@ module _ (size : ℕ) (before after : Recording) (file : View) (landings landing
     writes failed landed now is adds are whole =
         let shape_is : after.shape ≡ shape = adds.shape ∙ done.local.shape in
         let ends : Ends after.shape file (history_of after (landings ++ new_landings landings_before landings_now)) =
-        ends_performed before after file landings (new_landings landings_before landings_now) who events answer (ask.Write page cause) (record { legal = lawful.legal; rests = lawful.rests }) meets.guards done are in
+        ends_performed before after file landings (new_landings landings_before landings_now) who events answer (ask.Write page cause) (record { legal = lawful.legal; rests = rests_same before landings rests }) meets.guards done are in
         let view : ShowsView shape now (world_of shape file (history_of after (landings ++ new_landings landings_before landings_now))).kept =
         rw (is, whole, lawful.sized) (view_after shape (world_of shape file past) who page bytes image (fits ∙ lawful.sized) shown_here it cause failed landed) in
         record {
           legal = ends.legal;
-          rests = ends.rests;
           sized = lawful.sized ∙ sym (ap (λ (s : Shape). s.size) shape_is);
           shown = subst (λ s. ShowsView s now (world_of s file (history_of after (landings ++ new_landings landings_before landings_now))).kept) (sym shape_is) view;
         }
@@ -116,8 +116,9 @@ module _ (size : ℕ) (before after : Recording) (file : View) (landings landing
       answered bytes page cause lawful meets done step.0 now step.1 step.2 (rw step.1 at pages.0)
   stays_lawful bytes now asked lawful meets done pages = calmly bytes now asked refl lawful meets done pages
 
--- one event more between two steps
-module _ (size : ℕ) (bytes : Option (List ℕ)) (before after : Recording) (file : View) (landings : List Bool) (lawful : IsLawfulOver size bytes before file landings) where
+-- One event more between two steps.
+module _ (size : ℕ) (bytes : Option (List ℕ)) (before after : Recording) (file : View) (landings : List Bool) (rests : IsAtRest (recorded before))
+    (lawful : IsLawfulOver size bytes before file landings) where
   one_more : (owner : ℕ) (own : Act) → is_write own ≡ false → is_failed_write own ≡ false → Adds before after (by owner own ∷ []) → Ends after.shape file (history_of after landings)
       → IsLawfulOver size bytes after file landings
   one_more owner own calm steady adds ends =
@@ -125,13 +126,12 @@ module _ (size : ℕ) (bytes : Option (List ℕ)) (before after : Recording) (fi
       ap (λ g. (world_of before.shape file g).kept) (history_push before after (by owner own) landings adds.longer steady) ∙ kept_acted before.shape (world_of before.shape file (history_of before landings)) owner own false calm in
       record {
         legal = ends.legal;
-        rests = ends.rests;
         sized = lawful.sized ∙ sym (ap (λ (s : Shape). s.size) adds.shape);
         shown = subst (λ s. ShowsView s bytes (world_of s file (history_of after landings)).kept) (sym adds.shape) (subst (ShowsView before.shape bytes) (sym kept_is) lawful.shown);
       }
 
   pub lawful_died : (owner : ℕ) → is_alive (recorded before) owner ≡ true → Adds before after (by owner act.Die ∷ []) → IsLawfulOver size bytes after file landings
-  lawful_died owner alive adds = one_more owner act.Die refl refl adds (ends_died before after file landings (record { legal = lawful.legal; rests = lawful.rests }) owner alive adds)
+  lawful_died owner alive adds = one_more owner act.Die refl refl adds (ends_died before after file landings (record { legal = lawful.legal; rests = rests_same before landings rests }) owner alive adds)
 
   pub lawful_opened : (locks : ℕ) → ((owner : ℕ) → is_alive (recorded before) owner ≡ false) → Adds before after (by 0 (act.Opened locks) ∷ []) → IsLawfulOver size bytes after file landings
-  lawful_opened locks none adds = one_more 0 (act.Opened locks) refl refl adds (ends_opened before after file landings (record { legal = lawful.legal; rests = lawful.rests }) locks none adds)
+  lawful_opened locks none adds = one_more 0 (act.Opened locks) refl refl adds (ends_opened before after file landings (record { legal = lawful.legal; rests = rests_same before landings rests }) locks none adds)

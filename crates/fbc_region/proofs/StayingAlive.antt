@@ -1,9 +1,7 @@
 -- Who is alive stays so through a step by which nobody goes and no write fails.
-use Rattle.std.proofs.Common.{◌≡◌, ◌∙◌, ◌≢◌, ℕ, Bool, true, false, ◌==◌, List, [], ◌∷◌, ◌++◌, refl, arith}
+use Rattle.std.proofs.Common.{◌≡◌, ◌∙◌, ◌≢◌, ℕ, Bool, true, false, ◌==◌, List, [], ◌∷◌, ◌++◌, refl}
 use Rattle.std.specs.List.{AllByRecursion}
-use Rattle.std.proofs.lemmas.Bool.Decides.{nat_tests}
 use Rattle.fbc_levels.specs.declared.levels.Level.{Level}
-use Rattle.fbc_levels.specs.declared.resources.Request.{Request}
 use Rattle.fbc_levels.specs.declared.resources.Resource.{Resource}
 use Rattle.fbc_levels.specs.LockState.{LockState}
 use Rattle.fbc_lock_table.specs.declared.answers.Asked.{Asked}
@@ -30,7 +28,7 @@ use Rattle.fbc_region.specs.Stepping.{Performs, StepComesTo, answers_write}
 use Rattle.fbc_region.proofs.Grown.{lengthened, recorded_adds}
 use Rattle.fbc_region.proofs.Stable.{leaves}
 
--- whether its owner is alive no more
+-- Whether its owner is alive no more.
 abbrev pub is_end : Act → Bool
 is_end act.Leave = true
 is_end act.Die = true

@@ -140,13 +140,13 @@ module _ (between after : Recording) (file : View) (landings new : List Bool) (w
   ends_step ask.Least meets comes = one act.Least refl refl meets comes.1 (rw comes.0 refl)
   ends_step (ask.Note reply) meets comes = one (act.Note reply) refl refl meets comes.1 (rw comes.0 refl)
 
--- the history after the local events of a step
+-- The history after the local events of a step.
 pub past_locals : (before between : Recording) (landings : List Bool) (who : ℕ) (events : List LocalEvent) → Adds before between (local_events who events)
     → history_of between landings ≡ with_locals (history_of before landings) who events
 past_locals before between landings who events adds =
     history_adds before between (local_events who events) landings adds.longer (locals_steady who events) ∙ locals_lengthen (history_of before landings) who events
 
--- a whole step
+-- A whole step.
 pub ends_performed : (before after : Recording) (file : View) (landings new : List Bool) (who : ℕ) (events : List LocalEvent) (answer : Answer) (asked : Ask) → Ends before.shape file (history_of before landings)
     → MeetsGuards before.shape file (history_of before landings) who events asked → Performs before after who events answer asked → AreLandings answer new
     → Ends after.shape file (history_of after (landings ++ new))

@@ -14,7 +14,7 @@ use Rattle.fbc_region.specs.Granting.{is_live_wait, waits_in}
 use Rattle.fbc_region.specs.Kept.{IsOfCome}
 use Rattle.fbc_region.proofs.Living.{has_all_but, has_living, less_all_but}
 
--- who waits is among these owners
+-- Who waits is among these owners.
 abbrev WaitsAmong : List ℕ → Request → Type 0
 WaitsAmong owners r = is_live_wait r ≡ true → has owners r.owner ≡ true
 
@@ -30,7 +30,7 @@ one_wait r t once waits also = go (t.owner == r.owner) refl where
     clash : IsNone t.waiting → is_some t.waiting ≡ true → ⊥
     clash none is' = cc
 
--- of the others none is this owner
+-- Of the others none is this owner.
 rest_among : (owners : List ℕ) (r : Request) → is_live_wait r ≡ true → (rs : List Request) → AllByRecursion (WaitOnce r) rs → AllByRecursion (WaitsAmong owners) rs
     → AllByRecursion (WaitsAmong (all_but r.owner owners)) rs
 rest_among owners r waits [] once all = tt

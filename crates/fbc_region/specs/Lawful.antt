@@ -5,10 +5,8 @@ use Rattle.fbc_kinds.specs.declared.shapes.Shape.{Shape}
 use Rattle.fbc_kinds.specs.File.{IsViewOf}
 use Rattle.fbc_kinds.specs.Spelling.{IsSpelling}
 use Rattle.fbc_kinds.specs.View.{View}
-use Rattle.fbc_levels.specs.declared.resources.Resource.{Resource}
 use Rattle.fbc_lock_table.specs.declared.answers.Asked.TheVariants.{Dead}
 use Rattle.fbc_lock_table.specs.Answers.{answer_to_ask}
-use Rattle.fbc_legal.specs.Circles.{HasJustAsked}
 use Rattle.fbc_legal.specs.Guards.{Guard}
 use Rattle.fbc_legal.specs.Legal.{IsLegal, MayAct}
 use Rattle.fbc_legal.specs.Scene.{Scene, scene_of}
@@ -23,10 +21,6 @@ use Rattle.fbc_world.specs.History.{History, Recording, happens}
 use Rattle.fbc_world.specs.PageCell.{page_for}
 use Rattle.fbc_world.specs.World.{world_of}
 use Rattle.fbc_region.specs.Shared.{history_of}
-
--- No ask still waits for the grant that follows it at once: so it is between two steps.
-abbrev pub IsAtRest : History → Type 0
-IsAtRest history = (owner : ℕ) (resource : Resource) → ¬ HasJustAsked history owner resource
 
 -- The actor of an act may act, and the act meets its guard.
 pub record MeetsGuard (at : Scene) (owner : ℕ) (act : Act) : Type 0 where
@@ -90,11 +84,10 @@ abbrev pub ShowsView : Shape → Option (List ℕ) → View → Type 0
 ShowsView shape None view = ⊥
 ShowsView shape (Some bytes) view = IsViewOf shape bytes view
 
--- Over this file, and where its failed writes landed so, the journal is legal and at rest; the pages have the size that the file's
+-- Over this file, and where its failed writes landed so, the journal is legal; the pages have the size that the file's
 -- shape gives, and what is kept of each is what the device's bytes show.
 pub record IsLawfulOver (size : ℕ) (bytes : Option (List ℕ)) (journal : Recording) (file : View) (landings : List Bool) : Type 0 where
   pub legal : IsLegal journal.shape file (history_of journal landings)
-  pub rests : IsAtRest (history_of journal landings)
   pub sized : size ≡ journal.shape.size
   pub shown : ShowsView journal.shape bytes (world_of journal.shape file (history_of journal landings)).kept
 

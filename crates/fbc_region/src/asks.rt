@@ -44,6 +44,11 @@ impl Ledger {
             self.reap(owner, dead, by);
             return Answer::Reaped { owner: dead };
         }
+        if let Asked::Granted = asked {
+            self.chronicle
+                .push_granted(owner, resource, level, wait, word);
+            return Answer::Granted;
+        }
         self.chronicle.push(Event {
             actor: owner,
             act: Act::Ask {
@@ -54,13 +59,7 @@ impl Ledger {
             },
         });
         match asked {
-            Asked::Granted => {
-                self.chronicle.push(Event {
-                    actor: owner,
-                    act: Act::Grant { resource, level },
-                });
-                Answer::Granted
-            }
+            Asked::Granted => Answer::Granted,
             Asked::Queued => {
                 living_owners_are_few();
                 match cycle_from(&self.table, owner) {

@@ -3,30 +3,33 @@
 ghost use Rattle.std.specs.Prelude.{◌≡◌, ◌<◌, ◌≤◌, ◌+◌, ◌++◌, ◌∷◌, [], IfOk, OnOk};
 ghost use Rattle.fbc_kinds.specs.Edits.{IsShape};
 ghost use Rattle.fbc_legal.specs.Lives.{entered, entered_step};
+ghost use Rattle.fbc_region.specs.Adding.{by};
+ghost use Rattle.fbc_region.specs.Kept.{IsAtRest, LeavesRest};
+ghost use Rattle.fbc_world.specs.declared.events.Act.TheVariants as act;
 ghost use Rattle.fbc_world.specs.History.{recorded};
 
 use fbc_kinds::{Edit, Reply, Shape};
+use fbc_levels::{Level, Resource};
 use fbc_world::{Act, Ask, Event, Journal, LocalEvent};
 use std::alloc::{AllocError, Global};
 use std::marker::Model;
 
 /// A journal that only a region can lengthen, seen by contracts as that journal. In it come no more owners than there are
-/// numbers for.
+/// numbers for, and it never ends in an ask whose grant is still due.
 #[derive(Debug, Drop)]
 pub struct Chronicle {
     journal: Journal,
 }
 
 impl Model for Chronicle {
-    ghost use Rattle.std.specs.Prelude.{◌≤◌};
-    ghost use Rattle.fbc_legal.specs.Lives.{entered};
-    ghost use Rattle.fbc_world.specs.History.{Recording, recorded};
+    ghost use Rattle.fbc_region.specs.Kept.{IsChronicle};
+    ghost use Rattle.fbc_world.specs.History.{Recording};
 
     ghost Value = { Recording };
 
     ghost view = { λ c. c.journal };
 
-    ghost invariant = { λ c. entered (recorded c.journal) ≤ 65536 };
+    ghost invariant = { λ c. IsChronicle c.journal };
 }
 
 impl Chronicle {
@@ -48,6 +51,13 @@ impl Chronicle {
         &self.journal
     }
 
+    /// A chronicle tells that it does not end within a step.
+    pub(crate) fn is_at_rest(&self)
+        ensures { IsAtRest (recorded self.now) }
+    {
+        let _journal = &self.journal;
+    }
+
     /// Makes room for that many more events.
     pub(crate) fn reserve(&mut self, events: u32) -> Result<(), AllocError>
         ensures ok { OnOk result (events ≤ self.new.spare) }
@@ -58,10 +68,11 @@ impl Chronicle {
         self.journal.reserve(events)
     }
 
-    /// Adds an event, for which there is room.
+    /// Adds an event, for which there is room, and after which no grant is due.
     pub(crate) fn push(&mut self, event: Event)
         requires room { 0 < self.old.spare }
         requires few { entered_step (entered (recorded self.old)) event.act ≤ 65536 }
+        requires rests { LeavesRest (recorded self.old) event.actor event.act }
         ensures spare { self.new.spare + 1 ≡ self.old.spare }
         ensures shape { self.new.shape ≡ self.old.shape }
         ensures events { self.new.events ≡ self.old.events ++ event ∷ [] }
@@ -69,5 +80,34 @@ impl Chronicle {
         // The types inside an event are named here for the borrow checker.
         let _told: Option<(&Act, &Ask, &LocalEvent, &Edit, &Reply)> = None;
         self.journal.push(event);
+    }
+
+    /// Adds an ask and the grant that follows it at once. There is room for both.
+    pub(crate) fn push_granted(
+        &mut self,
+        owner: u32,
+        resource: Resource,
+        level: Level,
+        wait: bool,
+        word: u32,
+    )
+        requires { 1 < self.old.spare }
+        ensures spare { self.new.spare + 2 ≡ self.old.spare }
+        ensures shape { self.new.shape ≡ self.old.shape }
+        ensures events { self.new.events ≡ self.old.events ++ by owner (act.Ask resource level wait word) ∷ by owner (act.Grant resource level) ∷ [] }
+    {
+        self.journal.push(Event {
+            actor: owner,
+            act: Act::Ask {
+                resource,
+                level,
+                wait,
+                word,
+            },
+        });
+        self.journal.push(Event {
+            actor: owner,
+            act: Act::Grant { resource, level },
+        });
     }
 }

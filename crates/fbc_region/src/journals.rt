@@ -12,7 +12,7 @@ ghost use Rattle.fbc_region.specs.Shared.{history_of};
 ghost use Rattle.fbc_runs.specs.Ended.{settled_by};
 ghost use Rattle.fbc_simulation.specs.Beside.{commits_in, machine_of};
 ghost use Rattle.fbc_simulation.specs.Newest.{opens_at};
-ghost use Rattle.fbc_views.specs.Edited.{IsOfShape};
+ghost use Rattle.fbc_page_edits.specs.Edited.{IsOfShape};
 ghost use Rattle.fbc_world.specs.History.{Recording};
 ghost use Rattle.fbc_world.specs.World.{newest_of, world_of};
 ghost use Rattle.std.specs.Prelude.{Bool, List, Option, [], ℕ};

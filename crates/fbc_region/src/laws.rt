@@ -1,11 +1,17 @@
 //! Laws of journals: what a region adds keeps them legal. None of these functions does anything.
 
-ghost use Rattle.std.specs.Prelude.{◌≡◌, ◌≢◌, ◌++◌, ◌∷◌, [], ℕ, Bool, List, Option, true, false};
+ghost use Rattle.std.specs.Prelude.{◌≡◌, ◌≢◌, ◌++◌, ◌∷◌, [], ℕ, Bool, List, Option, None, true, false};
 ghost use Rattle.fbc_kinds.specs.View.{View};
 ghost use Rattle.fbc_legal.specs.Legal.{IsLegal};
+ghost use Rattle.fbc_levels.specs.LockState.{wait_of};
+ghost use Rattle.fbc_levels.specs.declared.levels.Level.{Level};
+ghost use Rattle.fbc_levels.specs.declared.resources.Resource.{Resource};
+ghost use Rattle.fbc_levels.specs.declared.resources.Series.TheVariants as series;
 ghost use Rattle.fbc_region.specs.Adding.{Adds, by};
-ghost use Rattle.fbc_region.specs.Lawful.{AreLandings, IsAtRest, IsLawfulOver, MeetsGuards, ShowsView};
-ghost use Rattle.fbc_region.specs.Shared.{history_of};
+ghost use Rattle.fbc_region.specs.Answering.{IsAsked};
+ghost use Rattle.fbc_region.specs.Kept.{IsAtRest};
+ghost use Rattle.fbc_region.specs.Lawful.{AreLandings, IsLawfulOver, MeetsGuards, ShowsView};
+ghost use Rattle.fbc_region.specs.Shared.{history_of, locks_in};
 ghost use Rattle.fbc_region.specs.Stepping.{Performs};
 ghost use Rattle.fbc_world.specs.declared.answers.Answer.{Answer};
 ghost use Rattle.fbc_world.specs.declared.answers.Answer.TheVariants as answers;
@@ -67,4 +73,11 @@ pub fn steps_leave_owners_alive()
     ensures { (before after : Recording) (who : ℕ) (events : List LocalEvent) (answer : Answer) (asked : Ask)
         → Performs before after who events answer asked → asked ≢ ask.Leave → answer ≢ answers.WriteFault
         → (owner : ℕ) → is_alive (recorded before) owner ≡ true → is_alive (recorded after) owner ≡ true }
+{}
+
+/// An ask for a page is never answered with a circle, where its owner waits for nothing.
+pub fn page_asks_meet_no_circle()
+    ensures { (before after : Recording) (owner : ℕ) (resource : Resource) (level : Level) (wait : Bool) (word : ℕ) (answer : Answer) (circle : List ℕ)
+        → wait_of (locks_in before) owner ≡ None → resource.series ≡ series.Page
+        → IsAsked before after owner resource level wait word answer → answer ≢ answers.Deadlock circle }
 {}

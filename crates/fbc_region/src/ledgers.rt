@@ -5,6 +5,7 @@ ghost use Rattle.fbc_blocking.specs.Callbacks.{blocked_by};
 ghost use Rattle.fbc_legal.specs.Lives.{entered, entered_step, living};
 ghost use Rattle.fbc_owner_queues.specs.Grants.{first_of};
 ghost use Rattle.fbc_region.specs.Adding.{Adds, UsesRoom, by, is_quiet, local_events};
+ghost use Rattle.fbc_region.specs.Kept.{IsAtRest};
 ghost use Rattle.fbc_region.specs.Shared.{HasReserved, HasRoom, locks_in};
 ghost use Rattle.fbc_levels.specs.declared.resources.Series.TheVariants as series;
 ghost use Rattle.fbc_lock_table.specs.Answers.{least_data_of};
@@ -90,6 +91,13 @@ impl Ledger {
         ensures { IsTrue result ↔ ((page : ℕ) × IsSome (blocked_by (locks_in self.now) owner page)) }
     {
         next_callback(&self.table, owner, None).is_some()
+    }
+
+    /// A ledger tells that its journal does not end within a step.
+    pub(crate) fn is_at_rest(&self)
+        ensures { IsAtRest (recorded self.now) }
+    {
+        self.chronicle.is_at_rest();
     }
 
     /// Records an act that changes no request, and by which nobody comes, goes or dies.

@@ -75,6 +75,7 @@ impl<D> Region<D> {
         ensures journal_back { IfErr result (λ none. Adds journal none.journal []) }
         ensures spare_back { IfErr result (λ none. journal.spare ≤ none.journal.spare) }
     {
+        journal.is_at_rest();
         match Ledger::open(alloc, locks, journal) {
             Ok(ledger) => Ok(Region {
                 device,
@@ -144,6 +145,7 @@ impl<D> Region<D> {
         ensures device { self.new.device ≡ self.old.device }
         ensures size { self.new.size ≡ self.old.size }
     {
+        self.ledger.is_at_rest();
         self.ledger.die(who);
     }
 }
@@ -171,6 +173,7 @@ impl<D: Device> Region<D> {
         ensures read_fault { result ≡ answers.ReadFault → Rose (D.faults self.old.device) (D.faults self.new.device) }
         ensures write_fault { result ≡ answers.WriteFault → Rose (D.faults self.old.device) (D.faults self.new.device) }
     {
+        self.ledger.is_at_rest();
         self.ledger.record_all(who, local);
         self.step(who, ask, image)
     }

@@ -16,13 +16,13 @@ use Rattle.fbc_region.proofs.Grown.{recorded_adds}
 use Rattle.fbc_region.proofs.Pushed.{recorded_push}
 use Rattle.fbc_region_tests.specs.Gone.{HaveGone}
 
--- a journal without events more
+-- A journal without events more.
 pub still_gone : (before after : Recording) (owners : ℕ) → Adds before after [] → HaveGone before owners → HaveGone after owners
 still_gone before after owners adds gone =
     let same : recorded after ≡ recorded before = recorded_adds before after [] adds.longer in
     record { came = ap entered same ∙ gone.came; nobody = ap living same ∙ gone.nobody }
 
--- the next one may come
+-- The next one may come.
 pub next_may_come : (reach size : ℕ) (journal : Recording) (owners : ℕ) (asked : Ask) → asked ≡ ask.Enter 4 1 → HaveGone journal owners → owners < 65536
     → MayPerform reach size journal (owners + 1) asked
 next_may_come reach size journal owners asked is gone few =
@@ -37,7 +37,7 @@ next_may_come reach size journal owners asked is gone few =
         fresh = rw gone.nobody refl;
       })
 
--- the history once it came
+-- The history once it came.
 came : (before after : Recording) (who : ℕ) (answer : Answer) (asked : Ask) → asked ≡ ask.Enter 4 1 → Performs before after who [] answer asked
     → recorded after ≡ happens who (act.Enter 4 1) false ∷ recorded before
 came before after who answer asked is comes = told (subst (λ a. Performs before after who [] answer a) is comes) where
@@ -46,14 +46,14 @@ came before after who answer asked is comes = told (subst (λ a. Performs before
       recorded_push done.between after (by who (act.Enter 4 1)) done.step.1.longer
       ∙ ap (λ (h : History). happens who (act.Enter 4 1) false ∷ h) (recorded_adds before done.between [] done.local.longer)
 
--- it is alive then
+-- It is alive then.
 pub alive_come : (before after : Recording) (who : ℕ) (answer : Answer) (asked : Ask) → asked ≡ ask.Enter 4 1 → Performs before after who [] answer asked
     → is_alive (recorded after) who ≡ true
 alive_come before after who answer asked is comes = ap (λ h. is_alive h who) (came before after who answer asked is comes) ∙ alone (recorded before) where
   alone : (h : History) → is_alive (happens who (act.Enter 4 1) false ∷ h) who ≡ true
   alone h = grind (arith, nat_tests)
 
--- and it is gone once it died
+-- And it is gone once it died.
 pub gone_then : (before between after : Recording) (owners : ℕ) (answer : Answer) (asked : Ask) → asked ≡ ask.Enter 4 1 → HaveGone before owners
     → Performs before between (owners + 1) [] answer asked → Adds between after (by (owners + 1) act.Die ∷ []) → HaveGone after (owners + 1)
 gone_then before between after owners answer asked is gone comes dies =

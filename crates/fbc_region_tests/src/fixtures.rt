@@ -62,7 +62,7 @@ fn put(bytes: &mut Vec<u8>, at: usize, spot: &[u8])
 }
 
 /// The shape of that file.
-fn shape() -> Shape
+pub(crate) fn shape() -> Shape
     ensures { IsShape result }
 {
     let none = Name::new(b"");

@@ -14,7 +14,7 @@ use Rattle.fbc_report.specs.Json.{array_text, damage_json, lost_cell_json, bool_
 use Rattle.fbc_report.specs.Text.{is_sound}
 use Rattle.fbc_report.specs.Values.{number_data, array_of, damage_data, lost_cell_data, report_data, found_data}
 
--- no byte of a rule's word is escaped
+-- No byte of a rule's word is escaped.
 compact_text-rule : (r : Rule) → compact_text (string (rule_text r)) ≡ 34 ∷ rule_text r ++ 34 ∷ []
 unfolding serde_json_on_literals
 compact_text-rule rule.Short = refl
@@ -50,7 +50,7 @@ items_text-later : (ds : List Data) → items_text true (items_of ds) ≡ flat_m
 items_text-later [] = refl
 items_text-later (d ∷ ds) = ap (λ rest. 44 ∷ (compact_text d ++ rest)) (items_text-later ds) ∙ ap (λ all. 44 ∷ all) (sym (append_assoc (compact_text d) _ _))
 
--- an array's text has the texts of its items
+-- An array's text has the texts of its items.
 pub compact_text-array_of : (ds : List Data) → compact_text (array_of ds) ≡ array_text (map compact_text ds)
 compact_text-array_of [] = refl
 compact_text-array_of (d ∷ ds) = ap (λ rest. 91 ∷ (compact_text d ++ rest)) (items_text-later ds) ∙ ap (λ all. 91 ∷ all) (sym (append_assoc (compact_text d) _ _))
@@ -94,11 +94,11 @@ pages_float : (ps : List ℕ) → items_have_float (items_of (map number_data ps
 pages_float [] = refl
 pages_float (p ∷ ps) = pages_float ps
 
--- the report has no float
+-- The report has no float.
 pub no_float : (found : Findings) → has_float (found_data found) ≡ false
 no_float found = rw (damages_float found.damages, lost_cells_float found.lost_cells, pages_float found.lost_pages)
 
--- the text of the whole report
+-- The text of the whole report.
 compact_text-report : (damages lost_cells lost_pages : Data) (pages : ℕ) (sound : Bool)
     → compact_text (report_data damages lost_cells lost_pages pages sound)
     ≡ codes "{\"damages\":" ++ compact_text damages
@@ -120,7 +120,7 @@ joined : (a b c : List ℕ) (pages : ℕ) (d : List ℕ)
     ≡ codes "{\"damages\":" ++ a ++ codes ",\"lost_cells\":" ++ b ++ codes ",\"lost_pages\":" ++ c ++ codes ",\"pages\":" ++ decimal pages ++ codes ",\"sound\":" ++ d ++ codes "}\n"
 joined a b c pages d = simp append_assoc
 
--- and its text, with a line feed, is that of the definition
+-- And its text, with a line feed, is that of the definition.
 pub found_text : (found : Findings) → compact_text (found_data found) ++ 10 ∷ [] ≡ report_json found
 found_text found =
     ap (λ text. text ++ 10 ∷ []) (compact_text-report (array_of (map damage_data found.damages)) (array_of (map lost_cell_data found.lost_cells)) (array_of (map number_data found.lost_pages)) found.pages (is_sound found.damages))

@@ -3,31 +3,25 @@ use Rattle.std.proofs.Common.{◌≡◌, ◌∙◌, ◌+◌, ℕ, Bool, true, fa
 use Rattle.std.specs.Prelude.{Option, Some, None, filter_map, slice_get}
 use Rattle.std.specs.List.{cons_option}
 use Rattle.std.specs.Option.{option_and_then}
-use Rattle.fbc_kinds.specs.declared.snapshots.Standing.{Standing}
-use Rattle.fbc_kinds.specs.declared.snapshots.Standing.TheVariants as standing
 use Rattle.fbc_kinds.specs.declared.snapshots.Transaction.{Transaction}
 use Rattle.fbc_kinds.specs.Chain.{Version}
-use Rattle.fbc_kinds.specs.Machine.{Machine, Made, is_open, is_open_of, is_rolled_back, numbered, open_place, open_transaction, standing_versions, with_version}
+use Rattle.fbc_kinds.specs.Machine.{Machine, Made, is_open, is_open_of, numbered, open_place, open_transaction, standing_versions, with_version}
 use Rattle.fbc_kinds.proofs.Heads.{both_pass}
 use Rattle.fbc_kinds.proofs.Tests.{same_from_test}
 use Rattle.fbc_runs.proofs.Searches.{no_place, placed}
+use Rattle.fbc_runs.proofs.Standings.{open_stands}
 
--- a version in front of the others, where it belongs there
+-- A version in front of the others, where it belongs there.
 abbrev pub with_first : Bool → Version → List Version → List Version
 with_first true version versions = version ∷ versions
 with_first false version versions = versions
 
--- the later machine has the version in front of the row, and is as before in all else
+-- The later machine has the version in front of the row, and is as before in all else.
 pub record Adds (before after : Machine) (relation row : ℕ) (version : Version) : Type 0 where
   pub transactions : after.transactions ≡ before.transactions
   pub versions : (r k : ℕ) → standing_versions after r k ≡ with_first ((relation == r) && (row == k)) version (standing_versions before r k)
 
-pub open_stands : (s : Standing) → is_open s ≡ true → is_rolled_back s ≡ false
-open_stands standing.Open is = refl
-open_stands standing.Committed is = refl
-open_stands standing.RolledBack is = cc
-
--- the place that the machine names as the maker of what an owner puts
+-- The place that the machine names as the maker of what an owner puts.
 pub record IsMaker (m : Machine) (who : ℕ) (t : Transaction) : Type 0 where
   pub maker : ℕ
   pub is : open_place m who ≡ Some maker

@@ -14,7 +14,7 @@ use Rattle.fbc_runs.proofs.CommittedNumbers.{committed_at, held_by_committed, on
 use Rattle.fbc_kinds.proofs.Heads.{both_pass}
 use Rattle.fbc_runs.proofs.Places.{PlaceOf, at_head, before_end, earlier, last, none_passes, place_of}
 
--- what passes for each passes at every place
+-- What passes for each passes at every place.
 pub passes_at : (test : Transaction → Bool) (ts : List Transaction) (place : ℕ) (t : Transaction) → list_all test ts ≡ true → slice_get ts place ≡ Some t → test t ≡ true
 passes_at test [] place t all at = cc
 passes_at test (u ∷ ts) zero t all at = ap test (sym (same_Some u t at)) ∙ (both_pass (test u) (list_all test ts) all).0
@@ -30,7 +30,7 @@ module _ (machine : Machine) (orderly : IsOrderly machine) (who number : ℕ) (g
   abbrev pub after : Machine
   after = record { rows = machine.rows; transactions = longer }
 
-  -- those that are not rolled back have smaller numbers
+  -- Those that are not rolled back have smaller numbers.
   smaller : (place : ℕ) (t : Transaction) → StandsAt machine.transactions place t → t.number < number
   smaller place t stands = go (is_rolled_back t.standing) stands.1 (passes_at (λ (u : Transaction). is_rolled_back u.standing || nat_lt u.number number) machine.transactions place t greater stands.0)
     where
@@ -38,7 +38,7 @@ module _ (machine : Machine) (orderly : IsOrderly machine) (who number : ℕ) (g
       go true is passes = cc
       go false is passes = grind (arith, nat_tests)
 
-  -- no open one is of this owner
+  -- No open one is of this owner.
   other_owner : (place : ℕ) (t : Transaction) → IsOpenAt machine.transactions place t → t.owner ≡ who → ⊥
   other_owner place t opens same =
       let fails : (is_open t.standing && (t.owner == who)) ≡ false = none_passes (is_open_of who) machine.transactions place t none opens.0 in
@@ -63,7 +63,7 @@ module _ (machine : Machine) (orderly : IsOrderly machine) (who number : ℕ) (g
       go (last end is) (earlier at) = absurd (other_owner other u (at, also.1) (sym same ∙ sym (ap (λ (x : Transaction). x.owner) is)))
       go (last end is) (last and_end and_is) = end ∙ sym and_end
 
-  -- what is committed stays so
+  -- What is committed stays so.
   still_committed : (n : ℕ) → is_held (committed_numbers machine.transactions) n ≡ true → is_held (committed_numbers longer) n ≡ true
   still_committed n held =
       let c = committed_at machine.transactions n held in
@@ -96,7 +96,7 @@ module _ (machine : Machine) (orderly : IsOrderly machine) (who number : ℕ) (g
       let count : length longer ≡ length machine.transactions + 1 = length-append machine.transactions (new ∷ []) in
       omega (arith, before, count)
 
-  -- the place of a version's maker is an old one
+  -- The place of a version's maker is an old one.
   old_place : (place : ℕ) (t : Transaction) → place < length machine.transactions → slice_get longer place ≡ Some t → slice_get machine.transactions place ≡ Some t
   old_place place t before at = go (place_of machine.transactions new t place at)
     where

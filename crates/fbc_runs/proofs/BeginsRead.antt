@@ -1,5 +1,6 @@
 -- Owners that begin on both machines leave what is read.
 use Rattle.std.proofs.Common.{◌≡◌, ◌∙◌, ◌==◌, ◌||◌, ℕ, Bool, true, false, List, refl, sym, ap, subst}
+use Rattle.std.proofs.lemmas.Bool.{or_right}
 use Rattle.std.specs.Prelude.{Option, Some, None}
 use Rattle.fbc_kinds.specs.declared.snapshots.Transaction.{Transaction}
 use Rattle.fbc_kinds.specs.Chain.{Version, see}
@@ -7,7 +8,6 @@ use Rattle.fbc_kinds.specs.Machine.{Machine, committed_numbers, is_held, open_tr
 use Rattle.fbc_kinds.specs.Meaning.{IsSameOpen, IsSameTransaction}
 use Rattle.fbc_kinds.proofs.Tests.{differ_from_test, same_from_test, test_of_different}
 use Rattle.fbc_runs.specs.Reading.{Gains, IsNewestOrLacks, ReadsAs}
-use Rattle.fbc_runs.proofs.ChangesCome.{right_one}
 use Rattle.fbc_runs.proofs.Numbers.{LacksNumber, see_same}
 use Rattle.fbc_runs.proofs.Opens.{SameTransactions}
 use Rattle.fbc_runs.proofs.RowReads.{RowReads, reads_as, row_reads, seen_in}
@@ -34,7 +34,7 @@ module _ (a b after_a after_b : Machine) (who : ℕ) (t u : Transaction) (reads 
           let differ = differ_from_test other who is in
           alike (open_transaction after_a other) (open_transaction after_b other) (open_transaction a other) (open_transaction b other) (first.others other differ) (second.others other differ) (reads.means.same_open other)
 
-  -- but for its own number the snapshot is that of the committed ones
+  -- But for its own number the snapshot is that of the committed ones.
   as_committed : (number : ℕ) → ¬ (number ≡ t.number) → is_held t.snapshot number ≡ is_held (committed_numbers a.transactions) number
   as_committed number differ = own number ∙ ap (λ b. b || is_held (committed_numbers a.transactions) number) (test_of_different number t.number differ)
 
@@ -44,7 +44,7 @@ module _ (a b after_a after_b : Machine) (who : ℕ) (t u : Transaction) (reads 
   lacks_after None (Some version) is =
       let before : is_held (committed_numbers a.transactions) version.number ≡ true = reads.means.committed version.number ∙ is.committed in
       let holds : is_held u.snapshot version.number ≡ true =
-      sym (same.snapshot version.number) ∙ own version.number ∙ right_one (version.number == t.number) (is_held (committed_numbers a.transactions) version.number) before in
+      sym (same.snapshot version.number) ∙ own version.number ∙ or_right (version.number == t.number) (is_held (committed_numbers a.transactions) version.number) before in
       record { deletion = is.deletion; committed = second.committed version.number ∙ is.committed; held = second.held version.number is.held holds }
 
   module _ (versions others : List Version) (was : RowReads a.transactions b.transactions versions others) (lacks : LacksNumber t.number versions) (also : LacksNumber t.number others) where

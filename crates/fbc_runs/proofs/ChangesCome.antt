@@ -1,5 +1,6 @@
 -- A change of a row may come to a machine where it may come to one that reads as it.
 use Rattle.std.proofs.Common.{◌≡◌, ◌∙◌, ℕ, Bool, true, false, not, ◌||◌, List, [], ◌∷◌, refl, sym, ap}
+use Rattle.std.proofs.lemmas.Bool.{or_left, or_right}
 use Rattle.std.specs.Prelude.{Option, Some, None, is_none}
 use Rattle.std.specs.Option.{option_and_then}
 use Rattle.fbc_kinds.specs.declared.snapshots.Transaction.{Transaction}
@@ -22,13 +23,6 @@ kept_failing x false back is = refl
 kept_failing true true back is = cc
 kept_failing false true back is = let both = back refl in cc
 
-pub either : (x y : Bool) → x ≡ true → (x || y) ≡ true
-either x y is = rw is refl
-
-pub right_one : (x y : Bool) → y ≡ true → (x || y) ≡ true
-right_one true y is = refl
-right_one false y is = is
-
 module _ (a b : Machine) (reads : ReadsAs a b) (differ : OwnersDiffer b.transactions) where
   free_too : (p q : Option Version) → IsNewestOrLacks b.transactions p q → is_free_row a.transactions p ≡ true → is_free_row b.transactions q ≡ true
   free_too None None lacks free = refl
@@ -47,7 +41,7 @@ module _ (a b : Machine) (reads : ReadsAs a b) (differ : OwnersDiffer b.transact
       ∙ kept_failing (is_open_of_other a.transactions who version.number) (is_open_of_other b.transactions who version.number)
       (open_of_others a.transactions b.transactions reads.means.same_open differ who version.number) settled
 
-  -- where there is no version nothing is seen
+  -- Where there is no version nothing is seen.
   none_seen : (who relation row : ℕ) → standing_versions a relation row ≡ [] → is_none (seen_by a who relation row) ≡ true
   none_seen who relation row none = go (open_transaction a who)
     where
@@ -57,7 +51,7 @@ module _ (a b : Machine) (reads : ReadsAs a b) (differ : OwnersDiffer b.transact
 
   module _ (who relation row : ℕ) where
     unseen_too : is_none (seen_by a who relation row) ≡ true → may_change b who relation row ≡ true
-    unseen_too none = either (is_none (seen_by b who relation row)) (is_settled_row b.transactions who (newest (standing_versions b relation row))) (ap is_none (sym (reads.means.seen who relation row)) ∙ none)
+    unseen_too none = or_left (is_none (seen_by b who relation row)) (is_settled_row b.transactions who (newest (standing_versions b relation row))) (ap is_none (sym (reads.means.seen who relation row)) ∙ none)
 
     pub change_comes : may_change a who relation row ≡ true → may_change b who relation row ≡ true
     change_comes may = go (standing_versions a relation row) refl (is_none (seen_by a who relation row)) refl may (reads.lacks relation row)
@@ -67,5 +61,5 @@ module _ (a b : Machine) (reads : ReadsAs a b) (differ : OwnersDiffer b.transact
         go versions is true none settled lacks = unseen_too none
         go [] is false none settled lacks = unseen_too (none_seen who relation row is)
         go (version ∷ older) is false none settled lacks =
-            right_one (is_none (seen_by b who relation row)) (is_settled_row b.transactions who (newest (standing_versions b relation row)))
+            or_right (is_none (seen_by b who relation row)) (is_settled_row b.transactions who (newest (standing_versions b relation row)))
             (settled_too who version (newest (standing_versions b relation row)) lacks settled)

@@ -10,7 +10,7 @@ use Rattle.fbc_runs.proofs.Added.{Adds, adds, adds_nothing, with_first}
 use Rattle.fbc_runs.proofs.Opens.{SameTransactions}
 use Rattle.fbc_runs.proofs.RowReads.{RowReads, reads_as, row_reads, same_transactions, seen_in}
 
--- the same version in front of both
+-- The same version in front of both.
 seen_first : (held also : ℕ → Bool) (version : Version) (versions others : List Version) → held version.number ≡ also version.number → see versions held ≡ see others also → see (version ∷ versions) held ≡ see (version ∷ others) also
 seen_first held also version versions others same rest = go (also version.number) same refl
   where
@@ -33,7 +33,7 @@ row_with_first ts us same true version versions others reads = record {
   lacks = refl;
 }
 
--- machines with one version more in the same row
+-- Machines with one version more in the same row.
 pub added_reads : (a b after_a after_b : Machine) (relation row : ℕ) (version : Version) → ReadsAs a b → Adds a after_a relation row version → Adds b after_b relation row version → ReadsAs after_a after_b
 added_reads a b after_a after_b relation row version reads first second =
     let same = same_transactions a b reads in
@@ -47,7 +47,7 @@ added_reads a b after_a after_b relation row version reads first second =
     (row_with_first a.transactions b.transactions same ((relation == r) && (row == k)) version (standing_versions a r k) (standing_versions b r k) (row_reads a b reads r k))))))
 
 module _ (a b : Machine) (reads : ReadsAs a b) where
-  -- an insertion, or a change that is done
+  -- An insertion, or a change that is done.
   module _ (who relation row : ℕ) (value : Option (List ℕ)) where
     abbrev put : Machine → Machine
     put m = with_version m (open_place m who) relation row value
@@ -63,7 +63,7 @@ module _ (a b : Machine) (reads : ReadsAs a b) where
             added_reads a b (put a) (put b) relation row (record { number = t.number; value = value }) reads (adds a who relation row value t is)
             (subst (λ n. Adds b (put b) relation row (record { number = n; value = value })) (sym same.number) (adds b who relation row value u was))
 
-  -- both machines agree on whether a change is done
+  -- Both machines agree on whether a change is done.
   lacking_is_not_done : (snapshot : List ℕ) (versions : List Version) → see versions (is_held snapshot) ≡ None → is_done snapshot versions ≡ false
   lacking_is_not_done snapshot [] none = refl
   lacking_is_not_done snapshot (version ∷ older) none = rw none refl

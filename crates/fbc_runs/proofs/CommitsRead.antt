@@ -1,5 +1,6 @@
 -- Commits of an owner on both machines leave what is read.
 use Rattle.std.proofs.Common.{◌≡◌, ◌∙◌, ◌==◌, ◌||◌, ◌⊎◌, inl, inr, ℕ, Bool, true, false, List, [], ◌∷◌, refl, sym, ap, subst}
+use Rattle.std.proofs.lemmas.Bool.{or_left, or_right}
 use Rattle.std.specs.Prelude.{Option, Some, None}
 use Rattle.std.proofs.lemmas.Option.{same_Some}
 use Rattle.fbc_kinds.specs.declared.snapshots.Transaction.{Transaction}
@@ -9,13 +10,12 @@ use Rattle.fbc_kinds.specs.Meaning.{IsSameOpen}
 use Rattle.fbc_kinds.proofs.Tests.{differ_from_test, same_from_test, test_of_different, test_of_same}
 use Rattle.fbc_runs.specs.Orderly.{HasNewest}
 use Rattle.fbc_runs.specs.Reading.{IsNewestOrLacks, ReadsAs}
-use Rattle.fbc_runs.proofs.ChangesCome.{either, right_one}
 use Rattle.fbc_runs.proofs.CommittedOnes.{Commits}
 use Rattle.fbc_runs.proofs.Numbers.{HasNumber, LacksNumber, first_in, has_or_lacks, see_same}
 use Rattle.fbc_runs.proofs.Opens.{SameTransactions}
 use Rattle.fbc_runs.proofs.RowReads.{RowReads, reads_as, row_reads, seen_in}
 
--- where a version has the number, the newest one has it
+-- Where a version has the number, the newest one has it.
 abbrev pub IsNewestOf : ℕ → List Version → Type 0
 IsNewestOf number versions = HasNumber number versions → HasNewest number (newest versions)
 
@@ -45,14 +45,14 @@ module _ (a b after_a after_b : Machine) (who number : ℕ) (reads : ReadsAs a b
   lacks_after None None is = tt
   lacks_after None (Some version) is = record {
     deletion = is.deletion;
-    committed = second.committed version.number ∙ right_one (number == version.number) (is_held (committed_numbers b.transactions) version.number) is.committed;
+    committed = second.committed version.number ∙ or_right (number == version.number) (is_held (committed_numbers b.transactions) version.number) is.committed;
     held = second.held version.number is.held;
   }
 
-  -- the number itself is committed afterwards
+  -- The number itself is committed afterwards.
   own_in : (m after : Machine) → Commits m after who number → (version : Version) → version.number ≡ number → is_held (committed_numbers after.transactions) version.number ≡ true
   own_in m after is version same =
-      is.committed version.number ∙ either (number == version.number) (is_held (committed_numbers m.transactions) version.number) (test_of_same number version.number (sym same))
+      is.committed version.number ∙ or_left (number == version.number) (is_held (committed_numbers m.transactions) version.number) (test_of_same number version.number (sym same))
 
   seen_own : (m after : Machine) → Commits m after who number → (version : Version) (older : List Version) → version.number ≡ number → see (version ∷ older) (is_held (committed_numbers after.transactions)) ≡ version.value
   seen_own m after is version older same = rw (own_in m after is version same) refl
@@ -66,7 +66,7 @@ module _ (a b after_a after_b : Machine) (who number : ℕ) (reads : ReadsAs a b
   newest_number : (version : Version) (older : List Version) → HasNewest number (newest (version ∷ older)) → version.number ≡ number
   newest_number version older has = ap (λ (v : Version). v.number) (same_Some version has.version has.is) ∙ has.same
 
-  -- both see the newest version, which has the number
+  -- Both see the newest version, which has the number.
   seen_newest : (version : Version) (older others : List Version) → newest others ≡ Some version → version.number ≡ number
       → see (version ∷ older) (is_held (committed_numbers after_a.transactions)) ≡ see others (is_held (committed_numbers after_b.transactions))
   seen_newest version older [] is same = cc
@@ -76,7 +76,7 @@ module _ (a b after_a after_b : Machine) (who number : ℕ) (reads : ReadsAs a b
       ∙ ap (λ (v : Version). v.value) (sym one)
       ∙ sym (seen_own b after_b second other others (ap (λ (v : Version). v.number) one ∙ same))
 
-  -- a deletion that lacks is not seen
+  -- A deletion that lacks is not seen.
   seen_lacking : (others : List Version) (version : Version) → newest others ≡ Some version → version.number ≡ number → version.value ≡ None → None ≡ see others (is_held (committed_numbers after_b.transactions))
   seen_lacking [] version is same deletion = cc
   seen_lacking (other ∷ others) version is same deletion =

@@ -1,5 +1,6 @@
 -- A number is committed exactly if a committed transaction has it.
 use Rattle.std.proofs.Common.{◌≡◌, ◌∙◌, ◌⊎◌, ◌||◌, ◌==◌, inl, inr, ℕ, zero, suc, Bool, true, false, List, [], ◌∷◌, map, refl, ap, if◌then◌else◌}
+use Rattle.std.proofs.lemmas.Bool.{or_right}
 use Rattle.std.specs.Prelude.{Some, filter, slice_get}
 use Rattle.std.proofs.lemmas.Option.{same_Some}
 use Rattle.fbc_kinds.specs.declared.snapshots.Transaction.{Transaction}
@@ -10,11 +11,7 @@ pub one_passes : (a b : Bool) → (a || b) ≡ true → (a ≡ true) ⊎ (b ≡ 
 one_passes true b passes = inl refl
 one_passes false b passes = inr passes
 
-right_passes : (a b : Bool) → b ≡ true → (a || b) ≡ true
-right_passes true b passes = refl
-right_passes false b passes = passes
-
--- a committed transaction of this number is in the list
+-- A committed transaction of this number is in the list.
 pub record IsCommittedAt (ts : List Transaction) (number : ℕ) : Type 0 where
   pub place : ℕ
   pub maker : Transaction
@@ -49,7 +46,7 @@ held_behind : (t : Transaction) (ts : List Transaction) (number : ℕ) → is_he
 held_behind t ts number held = go (is_committed t.standing)
   where
     go : (b : Bool) → is_held (numbers_if b t ts) number ≡ true
-    go true = right_passes (t.number == number) (is_held (committed_numbers ts) number) held
+    go true = or_right (t.number == number) (is_held (committed_numbers ts) number) held
     go false = held
 
 held_at : (ts : List Transaction) (number place : ℕ) (t : Transaction) → slice_get ts place ≡ Some t → is_committed t.standing ≡ true → t.number ≡ number → is_held (committed_numbers ts) number ≡ true

@@ -1,5 +1,6 @@
 -- What the commit of an owner's open transaction changes.
 use Rattle.std.proofs.Common.{◌≡◌, ◌∙◌, ◌==◌, ◌&&◌, ◌||◌, ℕ, zero, suc, Bool, true, false, not, List, [], ◌∷◌, refl, sym, ap, map, filter, find, if◌then◌else◌}
+use Rattle.std.proofs.lemmas.Bool.{or_left, or_right}
 use Rattle.std.specs.Prelude.{Option, Some, None, filter_map, slice_get}
 use Rattle.std.specs.List.{cons_option}
 use Rattle.std.specs.Option.{option_and_then}
@@ -12,13 +13,13 @@ use Rattle.fbc_kinds.specs.Machine.{Machine, Made, after_end, committed_numbers,
 use Rattle.fbc_kinds.proofs.Heads.{both_pass}
 use Rattle.fbc_kinds.proofs.Tests.{same_from_test, test_of_different}
 use Rattle.fbc_runs.specs.Orderly.{OwnersDiffer}
-use Rattle.fbc_runs.proofs.Added.{maker_of, open_stands}
-use Rattle.fbc_runs.proofs.ChangesCome.{either, right_one}
+use Rattle.fbc_runs.proofs.Added.{maker_of}
 use Rattle.fbc_runs.proofs.EndedOnes.{others_stay, own_ends}
-use Rattle.fbc_runs.proofs.EndedReads.{mapped_at}
+use Rattle.fbc_runs.proofs.Places.{map_at}
 use Rattle.fbc_runs.proofs.Searches.{all_at, all_from}
+use Rattle.fbc_runs.proofs.Standings.{open_stands}
 
--- a committed transaction of a number
+-- A committed transaction of a number.
 pub record IsCommittedIn (ts : List Transaction) (number : ℕ) : Type 0 where
   pub place : ℕ
   pub item : Transaction
@@ -48,10 +49,10 @@ committed_from (x ∷ ts) number zero t at committed test =
 committed_from (x ∷ ts) number (suc place) t at committed test = go (is_committed x.standing) refl (committed_from ts number place t at committed test)
   where
     go : (c : Bool) → is_committed x.standing ≡ c → is_held (committed_numbers ts) number ≡ true → is_held (committed_numbers (x ∷ ts)) number ≡ true
-    go true is later = rw is (right_one (x.number == number) (is_held (committed_numbers ts) number) later)
+    go true is later = rw is (or_right (x.number == number) (is_held (committed_numbers ts) number) later)
     go false is later = rw is later
 
--- what stands at a place of a mapped list
+-- What stands at a place of a mapped list.
 pub record IsMapped {X Y : Type 0} (f : X → Y) (xs : List X) (place : ℕ) (y : Y) : Type 0 where
   pub item : X
   pub at : slice_get xs place ≡ Some item
@@ -62,7 +63,7 @@ mapped_from f [] place y at = cc
 mapped_from f (x ∷ xs) zero y at = record { item = x; at = refl; same = same_Some (f x) y at }
 mapped_from f (x ∷ xs) (suc place) y at = let rest = mapped_from f xs place y at in record { item = rest.item; at = rest.at; same = rest.same }
 
--- the later machine has the owner's transaction of this number committed, and is as before in all else
+-- The later machine has the owner's transaction of this number committed, and is as before in all else.
 pub record Commits (before after : Machine) (who number : ℕ) : Type 0 where
   pub none : open_transaction after who ≡ None
   pub others : (other : ℕ) → ¬ (other ≡ who) → open_transaction after other ≡ open_transaction before other
@@ -78,7 +79,7 @@ committed_not_own who t is = go t.standing is
     go standing.Committed is = refl
     go standing.RolledBack is = refl
 
-both_ways : (x y : Bool) → (x ≡ true → y ≡ true) → (y ≡ true → x ≡ true) → x ≡ y
+pub both_ways : (x y : Bool) → (x ≡ true → y ≡ true) → (y ≡ true → x ≡ true) → x ≡ y
 both_ways true y there back = sym (there refl)
 both_ways false true there back = back refl
 both_ways false false there back = refl
@@ -118,7 +119,7 @@ module _ (who : ℕ) where
           ∙ sym (ap (λ b. if b then Some t else find (is_open_of other) ts) (not_other own))
       go false apart later = ap (λ u. find (is_open_of other) (u ∷ map commit ts)) (commit_other t apart) ∙ ap (λ o. if is_open_of other t then Some t else o) later
 
-  -- a version stands as before
+  -- A version stands as before.
   numbered_same : (value : Option (List ℕ)) (t : Transaction) → numbered value (commit t) ≡ numbered value t
   numbered_same value t = go (is_open_of who t) refl
     where
@@ -168,14 +169,14 @@ module _ (who : ℕ) where
             let maker = maker_of m who t found in
             let place = differ one_in.place maker.maker was.item t (was.at, both.0) (maker.at, maker.opened) (same_from_test was.item.owner who both.1 ∙ sym maker.owner) in
             let one = same_Some was.item t (sym was.at ∙ ap (slice_get m.transactions) place ∙ maker.at) in
-            either (t.number == number) (is_held (committed_numbers m.transactions) number)
+            or_left (t.number == number) (is_held (committed_numbers m.transactions) number)
             (ap (λ (u : Transaction). u.number == number) (sym one)
             ∙ ap (λ (u : Transaction). u.number == number) (sym (commit_own was.item own))
             ∙ ap (λ (u : Transaction). u.number == number) was.same
             ∙ one_in.numbered)
         go one_in was false other =
             let same = sym (commit_other was.item other) ∙ was.same in
-            right_one (t.number == number) (is_held (committed_numbers m.transactions) number)
+            or_right (t.number == number) (is_held (committed_numbers m.transactions) number)
             (committed_from m.transactions number one_in.place was.item was.at
             (ap (λ (u : Transaction). is_committed u.standing) same ∙ one_in.committed)
             (ap (λ (u : Transaction). u.number == number) same ∙ one_in.numbered))
@@ -187,13 +188,13 @@ module _ (who : ℕ) where
         go true test is =
             let maker = maker_of m who t found in
             let ends = commit_own t maker.own in
-            committed_from (map commit m.transactions) number maker.maker (commit t) (mapped_at commit m.transactions maker.maker t maker.at)
+            committed_from (map commit m.transactions) number maker.maker (commit t) (map_at commit m.transactions maker.maker t maker.at)
             (ap (λ (u : Transaction). is_committed u.standing) ends)
             (ap (λ (u : Transaction). u.number == number) ends ∙ test)
         go false test is =
             let one_in = committed_in m.transactions number is in
             let stays = commit_other one_in.item (committed_not_own who one_in.item one_in.committed) in
-            committed_from (map commit m.transactions) number one_in.place (commit one_in.item) (mapped_at commit m.transactions one_in.place one_in.item one_in.at)
+            committed_from (map commit m.transactions) number one_in.place (commit one_in.item) (map_at commit m.transactions one_in.place one_in.item one_in.at)
             (ap (λ (u : Transaction). is_committed u.standing) stays ∙ one_in.committed)
             (ap (λ (u : Transaction). u.number == number) stays ∙ one_in.numbered)
 

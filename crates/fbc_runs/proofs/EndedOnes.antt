@@ -14,7 +14,7 @@ pub map_twice : {X Y Z : Type 0} (f : Y → Z) (g : X → Y) (h : X → Z) (xs :
 map_twice f g h [] same = refl
 map_twice f g h (x ∷ xs) same = rw (same x, map_twice f g h xs same) refl
 
--- what is at its end is not open
+-- What is at its end is not open.
 pub closed_end : (b : Bool) → is_open (end_by b) ≡ false
 closed_end true = refl
 closed_end false = refl
@@ -39,7 +39,7 @@ own_ends who now t is = ap (λ b. if b then record t { standing = now } else t) 
 pub others_stay : (who : ℕ) (now : Standing) (t : Transaction) → is_open_of who t ≡ false → ended who now t ≡ t
 others_stay who now t is = ap (λ b. if b then record t { standing = now } else t) is
 
--- how a transaction stands to an owner that may be living
+-- How a transaction stands to an owner that may be living.
 pub data Stands (living : List Transaction) (who : ℕ) (t : Transaction) : Type 0 where
   closed : is_open t.standing ≡ false → Stands living who t
   own : is_open t.standing ≡ true → t.owner ≡ who → Stands living who t
@@ -64,6 +64,6 @@ is_not_own who t opened differ = rw (opened, test_of_different t.owner who diffe
 pub closed_is_not_own : (who : ℕ) (t : Transaction) → is_open t.standing ≡ false → is_open_of who t ≡ false
 closed_is_not_own who t is = rw is refl
 
--- machines with equal transactions
+-- Machines with equal transactions.
 pub with_same : (m : Machine) (ts us : List Transaction) → ts ≡ us → (let first : Machine = record m { transactions = ts } in let second : Machine = record m { transactions = us } in first ≡ second)
 with_same m ts us same = ap (λ ws. let other : Machine = record m { transactions = ws } in other) same

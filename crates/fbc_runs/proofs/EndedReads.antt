@@ -1,10 +1,9 @@
 -- What an owner does that ends rolled back is not read.
-use Rattle.std.proofs.Common.{◌≡◌, ◌∙◌, ◌++◌, ℕ, zero, suc, Bool, true, false, ◌==◌, ◌&&◌, List, [], ◌∷◌, refl, sym, ap, subst, map, if◌then◌else◌}
+use Rattle.std.proofs.Common.{◌≡◌, ◌∙◌, ◌++◌, ℕ, Bool, true, false, ◌==◌, ◌&&◌, List, [], ◌∷◌, refl, sym, ap, subst, map, if◌then◌else◌}
 use Rattle.std.specs.Prelude.{Option, Some, None, filter_map, is_some, slice_get}
 use Rattle.std.specs.List.{cons_option}
 use Rattle.std.specs.Option.{option_and_then}
 use Rattle.std.proofs.lemmas.List.{map-append}
-use Rattle.std.proofs.lemmas.Option.{same_Some}
 use Rattle.fbc_kinds.specs.declared.snapshots.Standing.TheVariants as standing
 use Rattle.fbc_kinds.specs.declared.snapshots.Transaction.{Transaction}
 use Rattle.fbc_kinds.specs.Chain.{Version}
@@ -13,16 +12,12 @@ use Rattle.fbc_runs.specs.Ended.{end_by, ended_by, is_owner_of, settled_by}
 use Rattle.fbc_runs.specs.Reading.{ReadsAs}
 use Rattle.fbc_runs.proofs.Added.{IsMaker, adds_nothing, maker_of}
 use Rattle.fbc_runs.proofs.EndedOnes.{other_ends}
+use Rattle.fbc_runs.proofs.Places.{map_at}
 use Rattle.fbc_runs.proofs.Pushed.{reads_longer}
 use Rattle.fbc_runs.proofs.RowReads.{reads_in_place}
 
-pub mapped_at : {X Y : Type 0} (f : X → Y) (xs : List X) (place : ℕ) (x : X) → slice_get xs place ≡ Some x → slice_get (map f xs) place ≡ Some (f x)
-mapped_at f [] place x at = cc
-mapped_at f (y ∷ ys) zero x at = ap Some (ap f (same_Some y x at))
-mapped_at f (y ∷ ys) (suc place) x at = mapped_at f ys place x at
-
 module _ (living : List Transaction) (commits : ℕ → Bool) (who : ℕ) (none : is_owner_of living who ≡ false) (no_commit : commits who ≡ false) where
-  -- a version that the owner's transaction made is rolled back
+  -- A version that the owner's transaction made is rolled back.
   gone : (value : Option (List ℕ)) (t : Transaction) → is_open t.standing ≡ true → t.owner ≡ who → numbered value (ended_by living commits t) ≡ None
   gone value t opened same =
       ap (numbered value) (other_ends living commits t opened (ap (is_owner_of living) same ∙ none))
@@ -42,7 +37,7 @@ module _ (living : List Transaction) (commits : ℕ → Bool) (who : ℕ) (none 
           where
             nothing : stands (record { maker = found.maker; value = value }) ≡ None
             nothing =
-                ap (option_and_then (numbered value)) (mapped_at (ended_by living commits) m.transactions found.maker t found.at)
+                ap (option_and_then (numbered value)) (map_at (ended_by living commits) m.transactions found.maker t found.at)
                 ∙ gone value t found.opened found.owner
 
             same : (b : Bool) (rows : List Made) → filter_map stands (if b then record { maker = found.maker; value = value } ∷ rows else rows) ≡ filter_map stands rows
@@ -66,7 +61,7 @@ module _ (living : List Transaction) (commits : ℕ → Bool) (who : ℕ) (none 
         go None = reads
         go (Some t) = where_done (is_done t.snapshot (standing_versions m relation row))
 
-    -- a transaction that begins is rolled back
+    -- A transaction that begins is rolled back.
     module _ (number : ℕ) where
       abbrev end : Transaction
       end = record (begun m who number) { standing = standing.RolledBack }

@@ -9,7 +9,7 @@ use Rattle.fbc_kinds.proofs.Heads.{both_pass}
 use Rattle.fbc_runs.proofs.Standings.{open_not_committed, open_stands}
 use Rattle.fbc_runs.proofs.StandingsFall.{Ends, ends_orderly}
 
--- a transaction, ended where a test says so
+-- A transaction, ended where a test says so.
 abbrev pub ended_if : Bool → Standing → Transaction → Transaction
 ended_if b now t = if b then record t { standing = now } else t
 
@@ -30,7 +30,7 @@ module _ (now : Standing) (closed : is_open now ≡ false) (t : Transaction) whe
   stood_before true opened stands = open_stands t.standing (opened refl)
   stood_before false opened stands = stands
 
--- every change that ends open transactions alone
+-- Every change that ends open transactions alone.
 ends_by : (test : Transaction → Bool) (now : Transaction → Standing) → ((t : Transaction) → is_open (now t) ≡ false) → ((t : Transaction) → test t ≡ true → is_open t.standing ≡ true) → Ends (λ t. ended_if (test t) (now t) t)
 ends_by test now closed opened = record {
   number = λ t. number_stays (now t) (closed t) t (test t);

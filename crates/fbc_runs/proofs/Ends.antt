@@ -26,11 +26,11 @@ module _ (living : List Transaction) (who : ℕ) (none : is_owner_of living who 
           ∙ ap (λ b. let u : Transaction = record t { standing = end_by b } in u) (others t.owner differ)
           ∙ sym (other_ends living commits t is ends)
 
-  -- an owner's end that comes anyway changes nothing
+  -- An owner's end that comes anyway changes nothing.
   pub ends_same : (m : Machine) → settled_by living also (after_end m who (end_by (commits who))) ≡ settled_by living commits m
   ends_same m = with_same m _ _ (map_twice (ended_by living also) (ended who (end_by (commits who))) (ended_by living commits) m.transactions end_once)
 
--- only the commits of owners that are not living matter
+-- Only the commits of owners that are not living matter.
 pub other_commits_same : (living : List Transaction) (commits also : ℕ → Bool) → ((owner : ℕ) → is_owner_of living owner ≡ false → commits owner ≡ also owner) → (m : Machine) → settled_by living commits m ≡ settled_by living also m
 other_commits_same living commits also same m = with_same m _ _ (map_same (ended_by living commits) (ended_by living also) m.transactions each)
   where
@@ -41,14 +41,14 @@ other_commits_same living commits also same m = with_same m _ _ (map_same (ended
         go true lives = living_stays living commits t lives ∙ sym (living_stays living also t lives)
         go false ends = ap (λ b. if is_open t.standing && not (is_owner_of living t.owner) then record t { standing = end_by b } else t) (same t.owner ends)
 
--- and of the living ones only their owners
+-- And of the living ones only their owners.
 pub other_living_same : (living others : List Transaction) (commits : ℕ → Bool) → ((owner : ℕ) → is_owner_of living owner ≡ is_owner_of others owner) → (m : Machine) → settled_by living commits m ≡ settled_by others commits m
 other_living_same living others commits same m = with_same m _ _ (map_same (ended_by living commits) (ended_by others commits) m.transactions each)
   where
     each : (t : Transaction) → ended_by living commits t ≡ ended_by others commits t
     each t = ap (λ b. if is_open t.standing && not b then record t { standing = end_by (commits t.owner) } else t) (same t.owner)
 
--- the commit of a living owner ends it
+-- The commit of a living owner ends it.
 module _ (first : Transaction) (living : List Transaction) (none : is_owner_of living first.owner ≡ false) (commits also : ℕ → Bool)
     (commit : also first.owner ≡ true) (others : (owner : ℕ) → ¬ (owner ≡ first.owner) → also owner ≡ commits owner) where
   first_lives : (owner : ℕ) → owner ≡ first.owner → is_owner_of (first ∷ living) owner ≡ true

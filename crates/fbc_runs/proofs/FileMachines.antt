@@ -18,7 +18,7 @@ module _ (view : View) where
   counted zero = refl
   counted (suc count) = grind (arith, common_steps, counted count)
 
-  -- a place has the settled transaction of the next number
+  -- A place has the settled transaction of the next number.
   settled_at : (place : ℕ) (t : Transaction) → slice_get (transactions_up_to view [] (next_of view)) place ≡ Some t → settled view (suc place) ≡ t
   settled_at place t at =
       let within : place < next_of view = subst (λ n. place < n) (counted (next_of view)) (slice_get_within (transactions_up_to view [] (next_of view)) place t at) in

@@ -11,7 +11,7 @@ use Rattle.fbc_runs.specs.Orderly.{StandsAt}
 use Rattle.fbc_runs.proofs.Places.{head_or_tail, at_head, in_tail}
 
 module _ (ts : List Transaction) where
-  -- a version with its number, where it stands
+  -- A version with its number, where it stands.
   abbrev pub shown : Made → Option Version
   shown v = option_and_then (numbered v.value) (slice_get ts v.maker)
 
@@ -20,7 +20,7 @@ module _ (ts : List Transaction) where
       ap (option_and_then (numbered v.value)) at
       ∙ ap (λ c. if c then None else (let x : Version = record { number = t.number; value = v.value } in Some x)) is
 
-  -- what a version that stands is shown as
+  -- What a version that stands is shown as.
   pub record IsShown (v : Made) (version : Version) : Type 0 where
     pub maker : Transaction
     pub stands : StandsAt ts v.maker maker
@@ -39,7 +39,7 @@ module _ (ts : List Transaction) where
               let x : Version = record { number = t.number; value = v.value } in
               record { maker = t; stands = (at, stands); same = ap (λ (y : Version). y.number) (same_Some version x (sym is ∙ shown_of v t at false stands)) }
 
-  -- a version that is shown was made by a version of the row
+  -- A version that is shown was made by a version of the row.
   pub record IsOfRow (row : List Made) (version : Version) : Type 0 where
     pub newer : List Made
     pub made : Made
@@ -62,7 +62,7 @@ module _ (ts : List Transaction) where
           each (inl same) later = record { newer = []; made = v; older = rest; is = refl; shows = shown_is v version (is ∙ ap Some same) }
           each (inr behind) later = later_row v rest version (later behind)
 
-  -- the newest version that stands, where one of the row's does
+  -- The newest version that stands, where one of the row's does.
   pub record IsNewestBefore (newer : List Made) (w : Made) (found : Option Version) : Type 0 where
     pub version : Version
     pub is : found ≡ Some version

@@ -23,7 +23,7 @@ open_not_committed u opened = go u.standing opened
     go standing.Committed is = cc
     go standing.RolledBack is = refl
 
--- versions whose makers are there have the same ones in the longer list
+-- Versions whose makers are there have the same ones in the longer list.
 versions_stay : (ts : List Transaction) (u : Transaction) (rows : List Made) → ((v : Made) → Contains rows v → v.maker < length ts)
     → filter_map (λ (v : Made). option_and_then (numbered v.value) (slice_get (ts ++ u ∷ []) v.maker)) rows
     ≡ filter_map (λ (v : Made). option_and_then (numbered v.value) (slice_get ts v.maker)) rows
@@ -33,7 +33,7 @@ versions_stay ts u (v ∷ rows) there =
     let here = before_last ts u v.maker (there v (0, omega arith, refl)) in
     λ i. cons_option (option_and_then (numbered v.value) (here i)) (rest i)
 
--- one more open transaction of an owner that has none
+-- One more open transaction of an owner that has none.
 pub one_gained : (b : Machine) (who : ℕ) (u : Transaction) → open_transaction b who ≡ None → is_open u.standing ≡ true → u.owner ≡ who → MakersAreThere b
     → (let after : Machine = record b { transactions = b.transactions ++ u ∷ [] } in Gains b after who u)
 one_gained b who u none opened owner there = record {

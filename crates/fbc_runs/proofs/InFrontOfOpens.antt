@@ -14,7 +14,7 @@ use Rattle.fbc_runs.proofs.Standings.{open_stands}
 pub open_stands_at : (ts : List Transaction) (place : ℕ) (t : Transaction) → IsOpenAt ts place t → StandsAt ts place t
 open_stands_at ts place t opens = (opens.0, open_stands t.standing opens.1)
 
--- an owner's open transaction is open at a place, and is the owner's
+-- An owner's open transaction is open at a place, and is the owner's.
 pub open_of : (who : ℕ) (t : Transaction) → is_open_of who t ≡ true → (is_open t.standing ≡ true) × (t.owner ≡ who)
 open_of who t passes = let both = both_pass (is_open t.standing) (t.owner == who) passes in (both.0, same_from_test t.owner who both.1)
 
@@ -40,7 +40,7 @@ module _ (machine : Machine) (orderly : IsOrderly machine) where
       near (inl same) u stands = ap (λ (x : Made). x.maker) same
       near {v} (inr within) u stands = orderly.front relation row newer older v w t u whole opens within stands
 
-  -- a transaction that stands with an open one's number is that one
+  -- A transaction that stands with an open one's number is that one.
   pub opens_by_number : (place other : ℕ) (t u : Transaction) → IsOpenAt machine.transactions place t → StandsAt machine.transactions other u → u.number ≡ t.number → other ≡ place
   opens_by_number place other t u opens stands same = orderly.numbers other place u t stands (open_stands_at machine.transactions place t opens) same
 

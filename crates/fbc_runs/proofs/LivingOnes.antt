@@ -12,7 +12,7 @@ use Rattle.fbc_runs.specs.Ended.{end_by, ended_by, is_owner_of, settled_by}
 use Rattle.fbc_runs.proofs.EndedOnes.{Stands, closed, closed_end, closed_is_not_own, closed_stays, is_not_own, living_one, living_stays, other_ends, other_one, own, stands}
 
 module _ (living : List Transaction) (commits : ℕ → Bool) (who : ℕ) (lives : is_owner_of living who ≡ true) where
-  -- the owner's transaction is as before, and no other becomes its
+  -- The owner's transaction is as before, and no other becomes its.
   same_own : (t : Transaction) → is_open_of who (ended_by living commits t) ≡ is_open_of who t
   same_own t = go (stands living who t)
     where
@@ -59,7 +59,7 @@ module _ (living : List Transaction) (commits : ℕ → Bool) (who : ℕ) (lives
     pub put_same : settled_by living commits (with_version m (open_place m who) relation row value) ≡ with_version (settled_by living commits m) (open_place (settled_by living commits m) who) relation row value
     put_same = put_at (open_place m who) ∙ sym (ap (λ o. with_version (settled_by living commits m) o relation row value) (living_place m))
 
--- a change that is answered so is done
+-- A change that is answered so is done.
 done_from_reply : (snapshot : List ℕ) (versions : List Version) → reply.Ok ≡ change_reply snapshot versions → is_done snapshot versions ≡ true
 done_from_reply snapshot [] ok = cc
 done_from_reply snapshot (version ∷ older) ok = go (see (version ∷ older) (is_held snapshot)) (is_held snapshot version.number) ok
@@ -77,7 +77,7 @@ done_change m who relation row value ok = go (open_transaction m who) ok
     go None ok = cc
     go (Some t) ok = ap (λ b. if b then with_version m (open_place m who) relation row value else m) (done_from_reply t.snapshot (standing_versions m relation row) ok)
 
--- a done change of a living owner
+-- A done change of a living owner.
 pub change_same : (living : List Transaction) (commits : ℕ → Bool) (who : ℕ) → is_owner_of living who ≡ true → (m : Machine) (relation row : ℕ) (value : Option (List ℕ))
     → reply.Ok ≡ reply_in (open_transaction m who) (changed m relation row)
     → reply.Ok ≡ reply_in (open_transaction (settled_by living commits m) who) (changed (settled_by living commits m) relation row)

@@ -18,13 +18,13 @@ first_or_later x xs y at = go at.0 at.1 at.2
     go zero lt same = inl same
     go (suc k) lt same = inr (k, omega (arith, lt), same)
 
--- one of the versions has the number
+-- One of the versions has the number.
 pub record HasNumber (number : ℕ) (versions : List Version) : Type 0 where
   pub version : Version
   pub at : Contains versions version
   pub same : version.number ≡ number
 
--- none of them has it
+-- None of them has it.
 abbrev pub LacksNumber : ℕ → List Version → Type 0
 LacksNumber number versions = (version : Version) → Contains versions version → ¬ (version.number ≡ number)
 
@@ -46,7 +46,7 @@ has_or_lacks number (version ∷ older) = go (version.number == number) refl (ha
     go false is (inl has) = inl (later_has number version older has)
     go false is (inr lacks) = inr (lacks_more number version older (differ_from_test version.number number is) lacks)
 
--- tests that agree on all versions see the same
+-- Tests that agree on all versions see the same.
 pub see_same : (held also : ℕ → Bool) (versions : List Version) → ((version : Version) → Contains versions version → held version.number ≡ also version.number) → see versions held ≡ see versions also
 see_same held also versions same = ap (option_and_then (λ (version : Version). version.value)) (found versions same)
   where

@@ -9,12 +9,12 @@ use Rattle.fbc_kinds.proofs.Tests.{same_from_test, test_of_same}
 use Rattle.fbc_runs.specs.Orderly.{OwnersDiffer}
 use Rattle.fbc_runs.proofs.Searches.{all_at, all_from, any_at, any_from, placed, some_found}
 
--- two lists have the same open transactions and the same committed numbers
+-- Two lists have the same open transactions and the same committed numbers.
 pub record SameTransactions (ts us : List Transaction) : Type 0 where
   pub opened : (who : ℕ) → IsSameOpen (find (is_open_of who) ts) (find (is_open_of who) us)
   pub committed : (number : ℕ) → is_held (committed_numbers ts) number ≡ is_held (committed_numbers us) number
 
--- what is found for an owner is open, and is the owner's
+-- What is found for an owner is open, and is the owner's.
 pub record IsOpenOf (ts : List Transaction) (who : ℕ) (t : Transaction) : Type 0 where
   pub place : ℕ
   pub at : slice_get ts place ≡ Some t
@@ -27,7 +27,7 @@ open_one ts who t is =
     let both = both_pass (is_open t.standing) (t.owner == who) found.passes in
     record { place = found.place; at = found.at; opened = both.0; owner = same_from_test t.owner who both.1 }
 
--- each open transaction is the one that is found for its owner
+-- Each open transaction is the one that is found for its owner.
 pub own_found : (ts : List Transaction) → OwnersDiffer ts → (place : ℕ) (t : Transaction) → slice_get ts place ≡ Some t → is_open t.standing ≡ true → find (is_open_of t.owner) ts ≡ Some t
 own_found ts differ place t at opened =
     let own : is_open_of t.owner t ≡ true = rw (opened, test_of_same t.owner t.owner refl) refl in
@@ -36,7 +36,7 @@ own_found ts differ place t at opened =
     let one : found.place ≡ place = differ found.place place some.0 t (found.at, found.opened) (at, opened) found.owner in
     some.1 ∙ sym found.at ∙ ap (slice_get ts) one ∙ at
 
--- the other list's open transaction of an owner
+-- The other list's open transaction of an owner.
 pub record IsPaired (ts : List Transaction) (u : Transaction) : Type 0 where
   pub other : Transaction
   pub found : IsOpenOf ts u.owner other
@@ -64,13 +64,13 @@ module _ (ts us : List Transaction) (opened : (who : ℕ) → IsSameOpen (find (
       let passes = all_at (λ (t : Transaction). not (is_open t.standing) || is_held t.snapshot number) ts pair.found.place pair.other all pair.found.at in
       sym (pair.same.snapshot number) ∙ held_where (is_open pair.other.standing) (is_held pair.other.snapshot number) passes pair.found.opened
 
-  -- what each open snapshot of the first list holds, each of the second holds
+  -- What each open snapshot of the first list holds, each of the second holds.
   pub held_by_others : (number : ℕ) → is_held_by_open ts number ≡ true → is_held_by_open us number ≡ true
   held_by_others number all =
       all_from (λ (t : Transaction). not (is_open t.standing) || is_held t.snapshot number) us
       (λ place u at. not_or (is_open u.standing) (is_held u.snapshot number) (held_by_one number place u all at))
 
-  -- what is another's open number in the second list is one in the first
+  -- What is another's open number in the second list is one in the first.
   pub open_of_others : (who number : ℕ) → is_open_of_other us who number ≡ true → is_open_of_other ts who number ≡ true
   open_of_others who number is =
       let some = any_at (λ (t : Transaction). is_open t.standing && (t.number == number) && not (t.owner == who)) us is in

@@ -12,7 +12,7 @@ use Rattle.fbc_runs.proofs.CommitsRead.{IsNewestOf, committed_reads}
 use Rattle.fbc_runs.proofs.CommittedOnes.{Commits, commits}
 use Rattle.fbc_runs.proofs.EndedOnes.{with_same}
 
--- without an open transaction an end changes nothing
+-- Without an open transaction an end changes nothing.
 none_ends : (who : ℕ) (now : Standing) (ts : List Transaction) → find (is_open_of who) ts ≡ None → map (ended who now) ts ≡ ts
 none_ends who now [] none = refl
 none_ends who now (t ∷ ts) none = go (is_open_of who t) none (none_ends who now ts)

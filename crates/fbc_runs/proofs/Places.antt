@@ -5,14 +5,14 @@ use Rattle.std.specs.List.{position_from}
 use Rattle.std.proofs.lemmas.Option.{same_Some, slice_get-map}
 use Rattle.std.specs.Option.{option_map}
 
--- an item of a list is one of the longer list
+-- An item of a list is one of the longer list.
 pub in_tail : {X : Type 0} (x : X) (xs : List X) (t : X) → Contains xs t → Contains (x ∷ xs) t
 in_tail x xs t at = (suc at.0, omega (arith, at.1), at.2)
 
 pub at_head : {X : Type 0} (x : X) (xs : List X) → Contains (x ∷ xs) x
 at_head x xs = (0, omega arith, refl)
 
--- an item of a list with one in front is that one, or one of the others
+-- An item of a list with one in front is that one, or one of the others.
 pub head_or_tail : {X : Type 0} (x : X) (xs : List X) (t : X) → Contains (x ∷ xs) t → (x ≡ t) ⊎ Contains xs t
 head_or_tail x xs t at = go at.0 at.1 at.2
   where
@@ -20,13 +20,13 @@ head_or_tail x xs t at = go at.0 at.1 at.2
     go zero lt same = inl same
     go (suc k) lt same = inr (k, omega (arith, lt), same)
 
--- places of a list with an item more at its end
+-- Places of a list with an item more at its end.
 pub before_end : {X : Type 0} (xs : List X) (x t : X) (k : ℕ) → slice_get xs k ≡ Some t → slice_get (xs ++ x ∷ []) k ≡ Some t
 before_end [] x t k at = cc
 before_end (y ∷ ys) x t zero at = at
 before_end (y ∷ ys) x t (suc k) at = before_end ys x t k at
 
--- an item of such a list is one of the others, or the last
+-- An item of such a list is one of the others, or the last.
 pub data PlaceOf {X : Type 0} (xs : List X) (x t : X) (k : ℕ) : Type 0 where
   earlier : slice_get xs k ≡ Some t → PlaceOf xs x t k
   last : k ≡ length xs → x ≡ t → PlaceOf xs x t k
@@ -41,7 +41,7 @@ place_of {X} (y ∷ ys) x t (suc k) at = go (place_of ys x t k at)
     go (earlier before) = earlier before
     go (last is same) = last (ap suc is) same
 
--- what stands at a place of a mapped list
+-- What stands at a place of a mapped list.
 pub record MappedAt {X Y : Type 0} (f : X → Y) (xs : List X) (k : ℕ) (y : Y) : Type 0 where
   pub item : X
   pub at : slice_get xs k ≡ Some item
@@ -55,7 +55,7 @@ mapped_at f (x ∷ xs) (suc k) y at = let rest = mapped_at f xs k y at in record
 pub map_at : {X Y : Type 0} (f : X → Y) (xs : List X) (k : ℕ) (x : X) → slice_get xs k ≡ Some x → slice_get (map f xs) k ≡ Some (f x)
 map_at f xs k x at = slice_get-map f xs k ∙ ap (option_map f) at
 
--- where a search ends
+-- Where a search ends.
 pub record FoundAt {X : Type 0} (test : X → Bool) (xs : List X) (place : ℕ) (t : X) : Type 0 where
   pub at : slice_get xs place ≡ Some t
   pub passes : test t ≡ true
@@ -84,7 +84,7 @@ placed_at {X} test xs place is = go (placed_from test xs 0 place is)
     go : (k : ℕ) × ((t : X) × FoundAt test xs k t) × (place ≡ 0 + k) → (t : X) × FoundAt test xs place t
     go (k, found, same) = let one : k ≡ place = omega (arith, same) in subst (λ n. (t : X) × FoundAt test xs n t) one found
 
--- where nothing is found, nothing passes
+-- Where nothing is found, nothing passes.
 pub none_passes : {X : Type 0} (test : X → Bool) (xs : List X) (k : ℕ) (t : X) → find test xs ≡ None → slice_get xs k ≡ Some t → test t ≡ false
 none_passes test [] k t is at = cc
 none_passes {X} test (x ∷ xs) k t is at = go (test x) refl is k at (none_passes test xs)

@@ -29,7 +29,7 @@ filter_push test (y ∷ ys) x fails = ap (λ kept. if test y then y ∷ kept els
 pub committed_push : (ts : List Transaction) (x : Transaction) → is_committed x.standing ≡ false → committed_numbers (ts ++ x ∷ []) ≡ committed_numbers ts
 committed_push ts x fails = ap (map (λ (t : Transaction). t.number)) (filter_push (λ (t : Transaction). is_committed t.standing) ts x fails)
 
--- what each open snapshot holds, where the one more holds it too
+-- What each open snapshot holds, where the one more holds it too.
 pub held_push : (ts : List Transaction) (x : Transaction) (number : ℕ) → (not (is_open x.standing) || is_held x.snapshot number) ≡ true → is_held_by_open (ts ++ x ∷ []) number ≡ is_held_by_open ts number
 held_push [] x number holds = rw holds refl
 held_push (t ∷ ts) x number holds = ap (λ b. (not (is_open t.standing) || is_held t.snapshot number) && b) (held_push ts x number holds)
@@ -39,7 +39,7 @@ before_last [] x place lt = absurd (omega arith)
 before_last (y ∷ ys) x zero lt = refl
 before_last (y ∷ ys) x (suc place) lt = before_last ys x place (omega arith)
 
--- one that is rolled back
+-- One that is rolled back.
 module _ (ts : List Transaction) (x : Transaction) (rolled : x.standing ≡ standing.RolledBack) where
   abbrev longer : List Transaction
   longer = ts ++ x ∷ []

@@ -8,7 +8,7 @@ use Rattle.fbc_kinds.specs.declared.replies.Reply.{Reply}
 use Rattle.fbc_kinds.specs.Machine.{IsReply, IsRun, Machine, machine_step}
 use Rattle.fbc_runs.specs.Runs.{MayAllCome, is_change, machine_after}
 
--- the reply to a command that is no question
+-- The reply to a command that is no question.
 answered : (machine : Machine) (asked : Command) → is_change asked ≡ true → (answer : Reply) × IsReply machine asked answer
 answered machine (command.Begin who number) is = (_, refl)
 answered machine (command.Insert who relation row value) is = (_, refl)

@@ -10,17 +10,17 @@ use Rattle.fbc_runs.specs.Orderly.{OwnersDiffer}
 use Rattle.fbc_runs.specs.Reading.{IsNewestOrLacks, IsSettledDeletion, ReadsAs}
 use Rattle.fbc_runs.proofs.Opens.{SameTransactions, held_by_others}
 
--- what the found transaction sees of versions
+-- What the found transaction sees of versions.
 abbrev pub seen_in : List Version → Option Transaction → Option (List ℕ)
 seen_in versions found = option_and_then (λ (t : Transaction). see versions (is_held t.snapshot)) found
 
--- of two rows' versions all that look at them see the same, and the first newest is the second or lacks
+-- Of two rows' versions all that look at them see the same, and the first newest is the second or lacks.
 pub record RowReads (ts us : List Transaction) (versions others : List Version) : Type 0 where
   pub seen : (who : ℕ) → seen_in versions (find (is_open_of who) ts) ≡ seen_in others (find (is_open_of who) us)
   pub committed : see versions (is_held (committed_numbers ts)) ≡ see others (is_held (committed_numbers us))
   pub lacks : IsNewestOrLacks us (newest versions) (newest others)
 
--- versions that are newest or lack are the same but for held deletions
+-- Versions that are newest or lack are the same but for held deletions.
 as_same_newest : (a b : Machine) (p q : Option Version) → IsNewestOrLacks b.transactions p q → IsSameNewest a b p q
 as_same_newest a b None None lacks = tt
 as_same_newest a b None (Some version) lacks = record { deletion = lacks.deletion; held = lacks.held }
@@ -51,7 +51,7 @@ reads_as a b same rows = record {
   lacks = λ relation row. (rows relation row).lacks;
 }
 
--- machines with the transactions and the standing versions of others read in their place
+-- Machines with the transactions and the standing versions of others read in their place.
 pub reads_in_place : (a b other_a other_b : Machine) → other_a.transactions ≡ a.transactions → other_b.transactions ≡ b.transactions
     → ((relation row : ℕ) → standing_versions other_a relation row ≡ standing_versions a relation row)
     → ((relation row : ℕ) → standing_versions other_b relation row ≡ standing_versions b relation row)
@@ -65,7 +65,7 @@ reads_in_place a b other_a other_b first second left right reads =
     (subst (λ vs. RowReads a.transactions b.transactions vs (standing_versions other_b relation row)) (sym (left relation row))
     (subst (RowReads a.transactions b.transactions (standing_versions a relation row)) (sym (right relation row)) (row_reads a b reads relation row)))))
 
--- a list of transactions has the open and committed ones of itself
+-- A list of transactions has the open and committed ones of itself.
 same_one : (o : Option Transaction) → IsSameOpen o o
 same_one None = tt
 same_one (Some t) = record { number = refl; snapshot = λ number. refl }
@@ -74,14 +74,14 @@ newest_one : (ts : List Transaction) (o : Option Version) → IsNewestOrLacks ts
 newest_one ts None = tt
 newest_one ts (Some version) = refl
 
--- every machine reads as itself
+-- Every machine reads as itself.
 pub reads_itself : (a : Machine) → ReadsAs a a
 reads_itself a =
     reads_as a a
     (record { opened = λ who. same_one (open_transaction a who); committed = λ number. refl })
     (λ relation row. record { seen = λ who. refl; committed = refl; lacks = newest_one a.transactions (newest (standing_versions a relation row)) })
 
--- a settled deletion of the first is one of the second
+-- A settled deletion of the first is one of the second.
 pub settled_in : (ts us : List Transaction) → SameTransactions ts us → OwnersDiffer us → (version : Version) → IsSettledDeletion ts version → IsSettledDeletion us version
 settled_in ts us same differ version is = record {
   deletion = is.deletion;
@@ -89,13 +89,13 @@ settled_in ts us same differ version is = record {
   held = held_by_others ts us same.opened differ version.number is.held;
 }
 
--- what lacks in one that lacks in another
+-- What lacks in one that lacks in another.
 lacks_twice : (ts us : List Transaction) → SameTransactions ts us → OwnersDiffer us → (p q r : Option Version) → IsNewestOrLacks ts p q → IsNewestOrLacks us q r → IsNewestOrLacks us p r
 lacks_twice ts us same differ (Some version) q r first second = subst (λ o. IsNewestOrLacks us o r) first second
 lacks_twice ts us same differ None None r first second = second
 lacks_twice ts us same differ None (Some version) r first second = subst (IsNewestOrLacks us None) (sym second) (settled_in ts us same differ version first)
 
--- an edit that leaves the meaning, and the newest versions but for settled deletions, leaves what is read
+-- An edit that leaves the meaning, and the newest versions but for settled deletions, leaves what is read.
 pub edited_reads : (a after b : Machine) → ReadsAs a b → MeanTheSame a after → after.transactions ≡ a.transactions → OwnersDiffer b.transactions
     → ((relation row : ℕ) → IsNewestOrLacks a.transactions (newest (standing_versions after relation row)) (newest (standing_versions a relation row)))
     → ReadsAs after b

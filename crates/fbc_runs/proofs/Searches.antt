@@ -1,11 +1,12 @@
 -- Where a search of a list ends, and what holds of all items.
 use Rattle.std.proofs.Common.{◌≡◌, ◌∙◌, ◌+◌, ℕ, zero, suc, Bool, true, false, ◌||◌, List, [], ◌∷◌, refl, sym, ap, arith, find, if◌then◌else◌}
+use Rattle.std.proofs.lemmas.Bool.{or_right}
 use Rattle.std.specs.Prelude.{Some, None, slice_get}
 use Rattle.std.specs.List.{list_all, list_any, position_from}
 use Rattle.std.proofs.lemmas.Option.{same_Some}
 use Rattle.fbc_kinds.proofs.Heads.{both_pass}
 
--- an item that passes, at its place, which the search for places finds
+-- An item that passes, at its place, which the search for places finds.
 pub record IsPlaced {X : Type 0} (test : X → Bool) (xs : List X) (x : X) (from : ℕ) : Type 0 where
   pub place : ℕ
   pub is : position_from test from xs ≡ Some (from + place)
@@ -22,7 +23,7 @@ first_one test y ys x from passes same =
     let start : from ≡ from + 0 = omega arith in
     record { place = 0; is = rw passes (ap Some start); at = ap Some same; passes = ap test (sym same) ∙ passes }
 
--- what is found has a place
+-- What is found has a place.
 pub placed : {X : Type 0} (test : X → Bool) (xs : List X) (x : X) (from : ℕ) → find test xs ≡ Some x → IsPlaced test xs x from
 placed test [] x from is = cc
 placed {X} test (y ∷ ys) x from is = go (test y) refl is (placed test ys x (from + 1))
@@ -31,7 +32,7 @@ placed {X} test (y ∷ ys) x from is = go (test y) refl is (placed test ys x (fr
     go true passes is later = first_one test y ys x from passes (same_Some y x is)
     go false passes is later = one_later test y ys x from passes (later is)
 
--- where nothing is found, there is no place
+-- Where nothing is found, there is no place.
 pub no_place : {X : Type 0} (test : X → Bool) (xs : List X) (from : ℕ) → find test xs ≡ None → position_from test from xs ≡ None
 no_place test [] from is = refl
 no_place {X} test (y ∷ ys) from is = go (test y) is (no_place test ys (from + 1))
@@ -40,7 +41,7 @@ no_place {X} test (y ∷ ys) from is = go (test y) is (no_place test ys (from + 
     go true is later = cc
     go false is later = later is
 
--- where an item passes, one is found
+-- Where an item passes, one is found.
 pub some_found : {X : Type 0} (test : X → Bool) (xs : List X) (place : ℕ) (x : X) → slice_get xs place ≡ Some x → test x ≡ true → (y : X) × (find test xs ≡ Some y)
 some_found test [] place x at passes = cc
 some_found test (y ∷ ys) zero x at passes = (y, rw (ap test (same_Some y x at) ∙ passes) refl)
@@ -50,7 +51,7 @@ some_found {X} test (y ∷ ys) (suc place) x at passes = go (test y) (some_found
     go true later = (y, refl)
     go false later = later
 
--- what all items pass, the one at a place passes
+-- What all items pass, the one at a place passes.
 pub all_at : {X : Type 0} (test : X → Bool) (xs : List X) (place : ℕ) (x : X) → list_all test xs ≡ true → slice_get xs place ≡ Some x → test x ≡ true
 all_at test [] place x all at = cc
 all_at test (y ∷ ys) zero x all at = ap test (sym (same_Some y x at)) ∙ (both_pass (test y) (list_all test ys) all).0
@@ -60,7 +61,7 @@ pub all_from : {X : Type 0} (test : X → Bool) (xs : List X) → ((place : ℕ)
 all_from test [] each = refl
 all_from test (y ∷ ys) each = rw (each 0 y refl, all_from test ys (λ place x at. each (suc place) x at)) refl
 
--- an item that passes, where one does
+-- An item that passes, where one does.
 pub record Passes {X : Type 0} (test : X → Bool) (xs : List X) : Type 0 where
   pub place : ℕ
   pub item : X
@@ -75,11 +76,7 @@ any_at {X} test (y ∷ ys) is = go (test y) refl is (any_at test ys)
     go true passes is later = record { place = 0; item = y; at = refl; passes = passes }
     go false passes is later = let rest = later is in record { place = suc rest.place; item = rest.item; at = rest.at; passes = rest.passes }
 
-or_true : (a b : Bool) → b ≡ true → (a || b) ≡ true
-or_true true b is = refl
-or_true false b is = is
-
 pub any_from : {X : Type 0} (test : X → Bool) (xs : List X) (place : ℕ) (x : X) → slice_get xs place ≡ Some x → test x ≡ true → list_any test xs ≡ true
 any_from test [] place x at passes = cc
 any_from test (y ∷ ys) zero x at passes = rw (ap test (same_Some y x at) ∙ passes) refl
-any_from test (y ∷ ys) (suc place) x at passes = or_true (test y) (list_any test ys) (any_from test ys place x at passes)
+any_from test (y ∷ ys) (suc place) x at passes = or_right (test y) (list_any test ys) (any_from test ys place x at passes)

@@ -23,7 +23,7 @@ module _ (change : Transaction → Transaction) (ends : Ends change) (machine : 
   abbrev pub after : Machine
   after = record machine { transactions = changed }
 
-  -- what stands afterwards stood before, with its number
+  -- What stands afterwards stood before, with its number.
   pub record Stood (place : ℕ) (t : Transaction) : Type 0 where
     pub was : Transaction
     pub stands : StandsAt machine.transactions place was
@@ -38,7 +38,7 @@ module _ (change : Transaction → Transaction) (ends : Ends change) (machine : 
         same = sym (ends.number from.item) ∙ ap (λ (x : Transaction). x.number) from.same;
       }
 
-  -- what is open afterwards was open before
+  -- What is open afterwards was open before.
   was_open : (place : ℕ) (t : Transaction) → IsOpenAt changed place t → IsOpenAt machine.transactions place t
   was_open place t opens =
       let from = mapped_at change machine.transactions place t opens.0 in

@@ -17,7 +17,7 @@ use Rattle.fbc_runs.proofs.InFrontOfOpens.{open_of, same_at}
 use Rattle.fbc_runs.proofs.Places.{found_at, placed_at}
 use Rattle.fbc_runs.proofs.VersionPut.{put_orderly}
 
--- the newest version of a change that is done is held
+-- The newest version of a change that is done is held.
 done_held : (snapshot : List ℕ) (versions : List Version) (version : Version) → is_done snapshot versions ≡ true → newest versions ≡ Some version → is_held snapshot version.number ≡ true
 done_held snapshot [] version done is = cc
 done_held snapshot (first ∷ older) version done is =
@@ -32,14 +32,14 @@ module _ (machine : Machine) (orderly : IsOrderly machine) where
       go None none = rw none (begun_orderly machine orderly who number greater none)
       go (Some t) is = rw is orderly
 
-  -- the place of an owner's open transaction
+  -- The place of an owner's open transaction.
   own_place : (who place : ℕ) → open_place machine who ≡ Some place → (t : Transaction) × IsOpenAt machine.transactions place t × (t.owner ≡ who)
   own_place who place is =
       let found = placed_at (is_open_of who) machine.transactions place is in
       let of = open_of who found.0 found.1.passes in
       (found.0, (found.1.at, of.0), of.1)
 
-  -- a version of the owner's in front of a row whose newest version its snapshot holds
+  -- A version of the owner's in front of a row whose newest version its snapshot holds.
   with_own_orderly : (who relation row : ℕ) (value : Option (List ℕ))
       → ((place : ℕ) (t : Transaction) (version : Version) → IsOpenAt machine.transactions place t → t.owner ≡ who → newest (standing_versions machine relation row) ≡ Some version → is_held t.snapshot version.number ≡ true)
       → (o : Option ℕ) → open_place machine who ≡ o → IsOrderly (with_version machine o relation row value)
@@ -48,7 +48,7 @@ module _ (machine : Machine) (orderly : IsOrderly machine) where
       let own = own_place who place is in
       put_orderly machine orderly place own.0 own.1 relation row value (λ version newest_is. held place own.0 version own.1 own.2 newest_is)
 
-  -- an open snapshot holds what every one holds
+  -- An open snapshot holds what every one holds.
   held_by_each : (number place : ℕ) (t : Transaction) → is_held_by_open machine.transactions number ≡ true → IsOpenAt machine.transactions place t → is_held t.snapshot number ≡ true
   held_by_each number place t all opens = go (is_open t.standing) opens.1 (passes_at (λ (u : Transaction). not (is_open u.standing) || is_held u.snapshot number) machine.transactions place t all opens.0)
     where
@@ -66,7 +66,7 @@ module _ (machine : Machine) (orderly : IsOrderly machine) where
   insert_orderly who relation row value free =
       with_own_orderly who relation row value (λ place t version opens own is. free_held place t (newest (standing_versions machine relation row)) version free opens is) (open_place machine who) refl
 
-  -- two open transactions of one owner are one
+  -- Two open transactions of one owner are one.
   one_open : (who place other : ℕ) (t u : Transaction) → IsOpenAt machine.transactions place t → t.owner ≡ who → IsOpenAt machine.transactions other u → u.owner ≡ who → t ≡ u
   one_open who place other t u opens own also same =
       same_at machine.transactions place other t u opens.0 also.0 (orderly.owners place other t u opens also (own ∙ sym same))
@@ -101,7 +101,7 @@ module _ (machine : Machine) (orderly : IsOrderly machine) where
   step_orderly (command.Rollback who) may = after_end_orderly machine orderly who standing.RolledBack refl
   step_orderly (command.Kill who) may = after_end_orderly machine orderly who standing.RolledBack refl
 
--- commands one after the other do so too
+-- Commands one after the other do so too.
 pub run_orderly : (machine : Machine) (commands : List Command) → IsOrderly machine → MayAllCome machine commands → IsOrderly (machine_after machine commands)
 run_orderly machine [] orderly may = orderly
 run_orderly machine (asked ∷ later) orderly may = run_orderly (machine_step machine asked) later (step_orderly machine orderly asked may.0) may.1

@@ -13,7 +13,7 @@ use Rattle.fbc_runs.proofs.Places.{head_or_tail}
 use Rattle.fbc_runs.proofs.Standings.{committed_stands, open_not_committed}
 
 module _ (machine : Machine) (orderly : IsOrderly machine) where
-  -- no committed transaction has an open one's number
+  -- No committed transaction has an open one's number.
   open_number_not_committed : (place : ℕ) (t : Transaction) → IsOpenAt machine.transactions place t → is_held (committed_numbers machine.transactions) t.number ≡ true → ⊥
   open_number_not_committed place t opens held =
       let c = committed_at machine.transactions t.number held in
@@ -23,7 +23,7 @@ module _ (machine : Machine) (orderly : IsOrderly machine) where
       let passes : is_committed t.standing ≡ true = ap (λ (u : Transaction). is_committed u.standing) (sym same) ∙ c.committed in
       cc
 
-  -- an open snapshot holds no other open one's number
+  -- An open snapshot holds no other open one's number.
   pub held_open_is_own : (place other : ℕ) (t u : Transaction) → IsOpenAt machine.transactions place t → IsOpenAt machine.transactions other u → is_held t.snapshot u.number ≡ true → other ≡ place
   held_open_is_own place other t u opens also held = go ((orderly.snapshots place t opens).1 u.number held)
     where
@@ -39,7 +39,7 @@ module _ (machine : Machine) (orderly : IsOrderly machine) where
     abbrev pub after_put : Machine
     after_put = with_version machine (Some maker) relation row value
 
-    -- an open version in this row is of the one who puts
+    -- An open version in this row is of the one who puts.
     own_row : (newer older : List Made) (w : Made) (u : Transaction) → machine.rows relation row ≡ newer ++ w ∷ older → IsOpenAt machine.transactions w.maker u → maker ≡ w.maker
     own_row newer older w u whole also =
         let first = opens_are_newest machine orderly relation row newer older w u whole also in

@@ -1,7 +1,6 @@
 //! A machine with some of its open transactions at their ends. None of these functions does anything.
 
 ghost use Rattle.fbc_kinds.specs.Machine.{
-  IsReply,
   Machine,
   after_end,
   begun,
@@ -10,15 +9,9 @@ ghost use Rattle.fbc_kinds.specs.Machine.{
 };
 ghost use Rattle.fbc_kinds.specs.Meaning.{meaning_of};
 ghost use Rattle.fbc_kinds.specs.View.{View};
-ghost use Rattle.fbc_kinds.specs.declared.commands.Command.TheVariants.{
-  Begin,
-  Commit,
-  Delete,
-  Insert,
-  Update,
-};
-ghost use Rattle.fbc_kinds.specs.declared.replies.Reply.TheVariants as reply;
+ghost use Rattle.fbc_kinds.specs.declared.commands.Command.TheVariants.{Begin, Commit};
 ghost use Rattle.fbc_kinds.specs.declared.snapshots.Transaction.{Transaction};
+ghost use Rattle.fbc_runs.specs.Changes.{ChangesEnded, IsNotRead};
 ghost use Rattle.fbc_runs.specs.Ended.{end_by, is_owner_of, settled_by};
 ghost use Rattle.fbc_runs.specs.Orderly.{MakersAreThere};
 ghost use Rattle.fbc_runs.specs.Reading.{Gains, ReadsAs};
@@ -26,46 +19,40 @@ ghost use Rattle.std.specs.Prelude.{◌≡◌, ◌∷◌, [], ℕ, Bool, false, 
 
 /// What an owner does whose transaction ends rolled back is not read.
 pub fn ended_owners_are_not_read()
-    ensures insert { (living : List Transaction) (commits : ℕ → Bool) (a m : Machine) (who relation row : ℕ) (value : List ℕ) → is_owner_of living who ≡ false → commits who ≡ false
-        → ReadsAs a (settled_by living commits m) → ReadsAs a (settled_by living commits (machine_step m (Insert who relation row value))) }
-    ensures update { (living : List Transaction) (commits : ℕ → Bool) (a m : Machine) (who relation row : ℕ) (value : List ℕ) → is_owner_of living who ≡ false → commits who ≡ false
-        → ReadsAs a (settled_by living commits m) → ReadsAs a (settled_by living commits (machine_step m (Update who relation row value))) }
-    ensures delete { (living : List Transaction) (commits : ℕ → Bool) (a m : Machine) (who relation row : ℕ) → is_owner_of living who ≡ false → commits who ≡ false
-        → ReadsAs a (settled_by living commits m) → ReadsAs a (settled_by living commits (machine_step m (Delete who relation row))) }
-    ensures begin { (living : List Transaction) (commits : ℕ → Bool) (a m : Machine) (who number : ℕ) → is_owner_of living who ≡ false → commits who ≡ false
-        → ReadsAs a (settled_by living commits m) → ReadsAs a (settled_by living commits (machine_step m (Begin who number))) }
+    ensures { (living : List Transaction) (commits : ℕ → Bool) (a m : Machine) (who : ℕ)
+        → is_owner_of living who ≡ false → commits who ≡ false → ReadsAs a (settled_by living commits m)
+        → IsNotRead living commits a m who }
 {}
 
 /// A transaction that ends anyway may end before.
 pub fn ends_come_to_the_same()
-    ensures { (living : List Transaction) (commits also : ℕ → Bool) (m : Machine) (who : ℕ) → is_owner_of living who ≡ false → ((owner : ℕ) → ¬ (owner ≡ who) → also owner ≡ commits owner)
+    ensures { (living : List Transaction) (commits also : ℕ → Bool) (m : Machine) (who : ℕ)
+        → is_owner_of living who ≡ false → ((owner : ℕ) → ¬ (owner ≡ who) → also owner ≡ commits owner)
         → settled_by living also (after_end m who (end_by (commits who))) ≡ settled_by living commits m }
 {}
 
 /// What a living owner changes comes to the same where the others are at their ends.
 pub fn living_owners_change_ended_machines()
-    ensures insert { (living : List Transaction) (commits : ℕ → Bool) (m : Machine) (who relation row : ℕ) (value : List ℕ) → is_owner_of living who ≡ true
-        → settled_by living commits (machine_step m (Insert who relation row value)) ≡ machine_step (settled_by living commits m) (Insert who relation row value) }
-    ensures update { (living : List Transaction) (commits : ℕ → Bool) (m : Machine) (who relation row : ℕ) (value : List ℕ) → is_owner_of living who ≡ true
-        → IsReply m (Update who relation row value) reply.Ok → IsReply (settled_by living commits m) (Update who relation row value) reply.Ok
-        → settled_by living commits (machine_step m (Update who relation row value)) ≡ machine_step (settled_by living commits m) (Update who relation row value) }
-    ensures delete { (living : List Transaction) (commits : ℕ → Bool) (m : Machine) (who relation row : ℕ) → is_owner_of living who ≡ true
-        → IsReply m (Delete who relation row) reply.Ok → IsReply (settled_by living commits m) (Delete who relation row) reply.Ok
-        → settled_by living commits (machine_step m (Delete who relation row)) ≡ machine_step (settled_by living commits m) (Delete who relation row) }
+    ensures { (living : List Transaction) (commits : ℕ → Bool) (m : Machine) (who : ℕ) → is_owner_of living who ≡ true
+        → ChangesEnded living commits m who }
 {}
 
 /// The ends depend on the commits of owners that are not living, and on who is living.
 pub fn same_ends()
-    ensures commits { (living : List Transaction) (commits also : ℕ → Bool) (m : Machine) → ((owner : ℕ) → is_owner_of living owner ≡ false → commits owner ≡ also owner)
+    ensures commits { (living : List Transaction) (commits also : ℕ → Bool) (m : Machine)
+        → ((owner : ℕ) → is_owner_of living owner ≡ false → commits owner ≡ also owner)
         → settled_by living commits m ≡ settled_by living also m }
-    ensures living { (living others : List Transaction) (commits : ℕ → Bool) (m : Machine) → ((owner : ℕ) → is_owner_of living owner ≡ is_owner_of others owner)
+    ensures living { (living others : List Transaction) (commits : ℕ → Bool) (m : Machine)
+        → ((owner : ℕ) → is_owner_of living owner ≡ is_owner_of others owner)
         → settled_by living commits m ≡ settled_by others commits m }
 {}
 
 /// A living owner that begins is one open transaction more, where the others are at their ends.
 pub fn begun_owners_are_gained()
-    ensures { (living : List Transaction) (commits : ℕ → Bool) (m : Machine) (who number : ℕ) → MakersAreThere m → open_transaction m who ≡ None → is_owner_of living who ≡ true
-        → Gains (settled_by living commits m) (settled_by living commits (machine_step m (Begin who number))) who (begun m who number) }
+    ensures { (living : List Transaction) (commits : ℕ → Bool) (m : Machine) (who number : ℕ)
+        → MakersAreThere m → open_transaction m who ≡ None → is_owner_of living who ≡ true
+        → Gains (settled_by living commits m) (settled_by living commits (machine_step m (Begin who number)))
+        who (begun m who number) }
 {}
 
 /// A file has no transaction that is not at its end.
@@ -75,7 +62,8 @@ pub fn none_living_in_a_file()
 
 /// The commit of the last that goes on leaves the machine in which it is at its end too.
 pub fn commits_of_ended()
-    ensures { (t : Transaction) (living : List Transaction) (commits also : ℕ → Bool) (m : Machine) → is_owner_of living t.owner ≡ false → also t.owner ≡ true
+    ensures { (t : Transaction) (living : List Transaction) (commits also : ℕ → Bool) (m : Machine)
+        → is_owner_of living t.owner ≡ false → also t.owner ≡ true
         → ((owner : ℕ) → ¬ (owner ≡ t.owner) → also owner ≡ commits owner)
         → machine_step (settled_by (t ∷ living) commits m) (Commit t.owner) ≡ settled_by living also m }
 {}

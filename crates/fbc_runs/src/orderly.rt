@@ -18,20 +18,25 @@ pub fn own_versions_stand_in_front()
 
 /// A file in which every number of a version has begun means an orderly machine.
 pub fn files_mean_orderly_machines()
-    ensures { (view : View) → ((relation row : ℕ) → All (λ (v : Version). (0 < v.number) × (v.number ≤ next_of view)) (chain view relation row)) → IsOrderly (meaning_of view) }
+    ensures { (view : View)
+        → ((relation row : ℕ) → All (λ (v : Version). (0 < v.number) × (v.number ≤ next_of view)) (chain view relation row))
+        → IsOrderly (meaning_of view) }
 {}
 
 /// Every command that may come keeps a machine orderly.
 pub fn commands_keep_machines_orderly()
-    ensures { (machine : Machine) (command : Command) → IsOrderly machine → MayCome machine command → IsOrderly (machine_step machine command) }
+    ensures { (machine : Machine) (command : Command) → IsOrderly machine → MayCome machine command
+        → IsOrderly (machine_step machine command) }
 {}
 
 /// An orderly machine stays so where all its open transactions end, but those of the living ones.
 pub fn ended_machines_are_orderly()
-    ensures { (living : List Transaction) (commits : ℕ → Bool) (machine : Machine) → IsOrderly machine → IsOrderly (settled_by living commits machine) }
+    ensures { (living : List Transaction) (commits : ℕ → Bool) (machine : Machine) → IsOrderly machine
+        → IsOrderly (settled_by living commits machine) }
 {}
 
 /// Commands that may come one after the other keep a machine orderly.
 pub fn runs_are_orderly()
-    ensures { (machine : Machine) (commands : List Command) → IsOrderly machine → MayAllCome machine commands → IsOrderly (machine_after machine commands) }
+    ensures { (machine : Machine) (commands : List Command) → IsOrderly machine → MayAllCome machine commands
+        → IsOrderly (machine_after machine commands) }
 {}

@@ -8,5 +8,7 @@ ghost use Rattle.std.specs.Prelude.{◌≡◌, All, List, true};
 
 /// Commands that ask nothing and may come one after the other are a run with some replies.
 pub fn playable_commands_are_runs()
-    ensures { (machine : Machine) (commands : List Command) → All (λ c. is_change c ≡ true) commands → MayAllCome machine commands → (replies : List Reply) × IsRun machine commands replies (machine_after machine commands) }
+    ensures { (machine : Machine) (commands : List Command)
+        → All (λ c. is_change c ≡ true) commands → MayAllCome machine commands
+        → (replies : List Reply) × IsRun machine commands replies (machine_after machine commands) }
 {}

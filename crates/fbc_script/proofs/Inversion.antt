@@ -22,17 +22,17 @@ use Rattle.fbc_script.specs.Spelling.{attachment_word, mode_word, step_word, sta
 use Rattle.fbc_script.proofs.Joining.{joined-words_of}
 use Rattle.fbc_script.proofs.Numerals.{decimal-number_of, decimal-attachment_of}
 
--- a choice that gives a value
+-- A choice that gives a value.
 chosen : {A : Type 0} (P : Type 0) (is : Bool) (a b : Result A Why) (x : A) → (is ≡ true → a ≡ Ok x → P) → (b ≡ Ok x → P) → (if is then a else b) ≡ Ok x → P
 chosen P true a b x this other ok = this refl ok
 chosen P false a b x this other ok = other ok
 
--- what was read before
+-- What was read before.
 bound : {A B : Type 0} (P : Type 0) (r : Result A Why) (f : A → Result B Why) (b : B) → ((a : A) → r ≡ Ok a → f a ≡ Ok b → P) → (r >>= f) ≡ Ok b → P
 bound P (Ok a) f b next ok = next a refl ok
 bound P (Err e) f b next ok = cc
 
--- what was there
+-- What was there.
 there : {A : Type 0} (o : Option A) (e : Why) (a : A) → ok_or o e ≡ Ok a → o ≡ Some a
 there None e a ok = cc
 there (Some x) e a ok = cc
@@ -40,7 +40,7 @@ there (Some x) e a ok = cc
 word-is : (word text : List ℕ) → bytes_eq word text ≡ true → word ≡ text
 word-is word text is = (bytes_eq-Decides word text).0 is
 
--- words by their number
+-- Words by their number.
 none-are : (words : List (List ℕ)) (found : Unit {0}) → no_words words ≡ Ok found → words ≡ []
 none-are [] found ok = refl
 none-are _ found ok = cc
@@ -57,7 +57,7 @@ three-are : (words : List (List ℕ)) (found : List ℕ × List ℕ × List ℕ)
 three-are (a ∷ b ∷ c ∷ []) found ok = let these : (a, b, c) ≡ found = cc in ap (λ (w : List ℕ × List ℕ × List ℕ). w.0 ∷ w.1 ∷ w.2 ∷ []) these
 three-are _ found ok = cc
 
--- single words
+-- Single words.
 name-is : (word relation : List ℕ) → read_name word ≡ Ok relation → word ≡ relation
 name-is word relation ok = chosen _ (is_name word) (Ok word) (Err why.Name) relation (λ is named. cc) (λ named. cc) ok
 
@@ -98,7 +98,7 @@ step-is word step ok =
     chosen _ (bytes_eq word (codes "poll")) _ _ step (λ is it. let this = word-is word (codes "poll") is in cc) (λ i.
     chosen _ (bytes_eq word (codes "answer")) _ _ step (λ is it. let this = word-is word (codes "answer") is in cc) (λ last. cc) i) h) g) f) e) d) c) b) ok
 
--- statements by their words
+-- Statements by their words.
 bare-is : (word text : List ℕ) (bare statement : Statement) (arguments : List (List ℕ)) → statement_words bare ≡ text ∷ [] → bytes_eq word text ≡ true → read_bare bare arguments ≡ Ok statement → word ∷ arguments ≡ statement_words statement
 bare-is word text bare statement arguments spelled is ok =
     bound _ (no_words arguments) _ statement (λ found none last.
@@ -201,7 +201,7 @@ statement-is : (words : List (List ℕ)) (statement : Statement) → read_statem
 statement-is [] statement ok = cc
 statement-is (word ∷ arguments) statement ok = arguments-are word arguments statement ok
 
--- lines by their words
+-- Lines by their words.
 first-of : (name : List ℕ) (words : List (List ℕ)) (at : ℕ) (rest : ℕ × List (List ℕ)) → name ≡ attachment_word at → (at, words) ≡ rest → name ∷ words ≡ attachment_word rest.0 ∷ rest.1
 first-of name words at rest named these =
     ap (λ word. word ∷ words) named ∙ ap (λ (r : ℕ × List (List ℕ)). attachment_word r.0 ∷ r.1) these
@@ -276,7 +276,7 @@ first_true : (a b : Bool) → (a && b) ≡ true → a ≡ true
 first_true true b both = refl
 first_true false b both = cc
 
--- a word that counts only without threads
+-- A word that counts only without threads.
 both_true : (a b : Bool) → (a && b) ≡ true → b ≡ true
 both_true true b both = both
 both_true false b both = cc
@@ -294,7 +294,7 @@ words-are : (threads : Bool) (words : List (List ℕ)) (order : Order) → read_
 words-are threads [] order ok = cc
 words-are threads (word ∷ words) order ok = order-is threads word words order ok
 
--- a line that is read is the spelling of its order, and its bytes may stand in a line
+-- A line that is read is the spelling of its order, and its bytes may stand in a line.
 pub line-is : (threads : Bool) (line : List ℕ) (order : Order) → read_line threads line ≡ Ok order → (line ≡ order_text order) × (list_all is_printable line ≡ true)
 line-is threads line order ok =
     chosen _ (is_spaced line) _ _ order (λ is it.

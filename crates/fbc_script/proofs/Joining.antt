@@ -5,17 +5,17 @@ use Rattle.std.proofs.lemmas.Bool.{eqb-true}
 use Rattle.fbc_script.specs.Pieces.{words_of, has_single_spaces}
 use Rattle.fbc_script.specs.Spelling.{joined}
 
--- a byte before the first word
+-- A byte before the first word.
 joined-onto : (byte next : ℕ) (words : List (List ℕ)) → joined (onto_first byte (onto_first next words)) ≡ byte ∷ joined (onto_first next words)
 joined-onto byte next [] = refl
 joined-onto byte next (word ∷ words) = refl
 
--- what follows a space is another word
+-- What follows a space is another word.
 joined-space : (byte next : ℕ) (words : List (List ℕ)) → joined ((byte ∷ []) ∷ onto_first next words) ≡ byte ∷ 32 ∷ joined (onto_first next words)
 joined-space byte next [] = refl
 joined-space byte next (word ∷ words) = refl
 
--- bytes behind another one, in its word or behind a space
+-- Bytes behind another one, in its word or behind a space.
 abbrev Joins : List ℕ → Type 0
 Joins bytes = has_single_spaces false bytes ≡ true → (byte : ℕ) → joined (onto_first byte (words_of bytes)) ≡ byte ∷ bytes
 

@@ -8,7 +8,7 @@ use Rattle.std.specs.List.{list_all}
 use Rattle.fbc_script.specs.Numbers.{is_digit, value_of, is_number, number_of}
 use Rattle.fbc_script.specs.Words.{attachment_of}
 
--- a number of digits behind others
+-- A number of digits behind others.
 abbrev onto_value : ℕ → List ℕ → ℕ
 onto_value value digits = fold (λ before digit. before * 10 + (digit - 48)) value digits
 
@@ -24,7 +24,7 @@ guarded : {A : Type 0} (is : Bool) (a b : A) → (if is then Some a else None) �
 guarded true a b some = (refl, cc)
 guarded false a b some = cc
 
--- a number has digits, and begins with `0` only if it is that
+-- A number has digits, and begins with `0` only if it is that.
 record IsPlain (word : List ℕ) : Type 0 where
   digits : list_all is_digit word ≡ true
   some : 0 < length word

@@ -7,13 +7,13 @@ use Rattle.fbc_script.specs.declared.faults.ScriptFault.{ScriptFault}
 use Rattle.fbc_script.specs.declared.script.Order.{Order}
 use Rattle.fbc_script.specs.declared.script.Line.{Line}
 use Rattle.fbc_script.specs.declared.script.Script.{Script}
-use Rattle.fbc_script.specs.Pieces.{lines_of, is_printable, is_passed_over}
+use Rattle.fbc_script.specs.Pieces.{split_lines, is_printable, is_passed_over}
 use Rattle.fbc_script.specs.Orders.{read_line}
 use Rattle.fbc_script.specs.Scripts.{fault_at, first_fault, line_at, kept_lines, IsScript}
 use Rattle.fbc_script.specs.Spelling.{text_at, kept_behind, lines_text, script_text}
 use Rattle.fbc_script.proofs.Inversion.{line-is}
 
--- a line before its line feed
+-- A line before its line feed.
 no_feed : (byte : ℕ) → is_printable byte ≡ true → (byte == 10) ≡ false
 no_feed byte is = grind (arith, nat_tests)
 
@@ -23,13 +23,13 @@ printable byte bytes all = both_true (is_printable byte) (list_all is_printable 
   both_true true b both = (refl, both)
   both_true false b both = cc
 
-lines_of-line : (line rest : List ℕ) → list_all is_printable line ≡ true → lines_of (line ++ 10 ∷ rest) ≡ line ∷ lines_of rest
-lines_of-line [] rest all = refl
-lines_of-line (byte ∷ bytes) rest all =
+split_lines-line : (line rest : List ℕ) → list_all is_printable line ≡ true → split_lines (line ++ 10 ∷ rest) ≡ line ∷ split_lines rest
+split_lines-line [] rest all = refl
+split_lines-line (byte ∷ bytes) rest all =
     let parts = printable byte bytes all in
-    rw (no_feed byte parts.0, lines_of-line bytes rest parts.1) refl
+    rw (no_feed byte parts.0, split_lines-line bytes rest parts.1) refl
 
--- lines with nothing in those that are passed over
+-- Lines with nothing in those that are passed over.
 abbrev canon : List (List ℕ) → List (List ℕ)
 canon [] = []
 canon (line ∷ lines) = (if is_passed_over line then [] else line) ∷ canon lines
@@ -54,7 +54,7 @@ kept_lines-canon : (threads : Bool) (number : ℕ) (lines : List (List ℕ)) →
 kept_lines-canon threads number [] = refl
 kept_lines-canon threads number (line ∷ lines) = kept-by (is_passed_over line) threads number line _ _ refl (kept_lines-canon threads (number + 1) lines)
 
--- kept lines that stand later than this number
+-- Kept lines that stand later than this number.
 abbrev StandLater : ℕ → List Line → Type 0
 StandLater number kept = (text_at number kept ≡ []) × (kept_behind number kept ≡ kept)
 
@@ -70,26 +70,26 @@ stand_later threads number at [] before = (refl, refl)
 stand_later threads number at (line ∷ lines) before =
     later-by (is_passed_over line) (read_line threads line) number at _ before (stand_later threads number (at + 1) lines (omega arith))
 
--- the printed lines are those of the script
+-- The printed lines are those of the script.
 same_number : (number : ℕ) → (number == number) ≡ true
 same_number number = grind (arith, nat_tests)
 
 printed-by : (passed threads : Bool) (read : Result Order Why) (number count : ℕ) (line : List ℕ) (lines : List (List ℕ)) (kept : List Line) (fault : Option ScriptFault) →
-    read_line threads line ≡ read → StandLater number kept → lines_of (lines_text count (number + 1) kept) ≡ lines →
+    read_line threads line ≡ read → StandLater number kept → split_lines (lines_text count (number + 1) kept) ≡ lines →
     (if passed then fault else fault_at number read fault) ≡ None →
-    lines_of (text_at number (if passed then kept else line_at number read kept) ++ 10 ∷ lines_text count (number + 1) (kept_behind number (if passed then kept else line_at number read kept))) ≡ (if passed then [] else line) ∷ lines
+    split_lines (text_at number (if passed then kept else line_at number read kept) ++ 10 ∷ lines_text count (number + 1) (kept_behind number (if passed then kept else line_at number read kept))) ≡ (if passed then [] else line) ∷ lines
 printed-by true threads read number count line lines kept fault is later more faultless = rw (later.0, later.1, more) refl
 printed-by false threads (Err why) number count line lines kept fault is later more faultless = cc
 printed-by false threads (Ok order) number count line lines kept fault is later more faultless =
     let this = line-is threads line order is in
-    rw (same_number number, ← this.0, lines_of-line line _ this.1, more) refl
+    rw (same_number number, ← this.0, split_lines-line line _ this.1, more) refl
 
 fault-behind : (passed : Bool) (read : Result Order Why) (number : ℕ) (fault : Option ScriptFault) → (if passed then fault else fault_at number read fault) ≡ None → fault ≡ None
 fault-behind true read number fault none = none
 fault-behind false (Ok order) number fault none = none
 fault-behind false (Err why) number fault none = cc
 
-printed-lines : (threads : Bool) (number : ℕ) (lines : List (List ℕ)) → first_fault threads number lines ≡ None → lines_of (lines_text (length lines) number (kept_lines threads number lines)) ≡ canon lines
+printed-lines : (threads : Bool) (number : ℕ) (lines : List (List ℕ)) → first_fault threads number lines ≡ None → split_lines (lines_text (length lines) number (kept_lines threads number lines)) ≡ canon lines
 printed-lines threads number [] faultless = refl
 printed-lines threads number (line ∷ lines) faultless =
     printed-by (is_passed_over line) threads (read_line threads line) number (length lines) line (canon lines) (kept_lines threads (number + 1) lines) (first_fault threads (number + 1) lines) refl
@@ -97,14 +97,14 @@ printed-lines threads number (line ∷ lines) faultless =
     (printed-lines threads (number + 1) lines (fault-behind (is_passed_over line) (read_line threads line) number _ faultless))
     faultless
 
-script_lines : (threads : Bool) (bytes : List ℕ) (script : Script) → IsScript threads bytes script → lines_of (script_text script) ≡ canon (lines_of bytes)
-script_lines threads bytes script is = rw (is.length, is.lines) (printed-lines threads 1 (lines_of bytes) is.faultless)
+script_lines : (threads : Bool) (bytes : List ℕ) (script : Script) → IsScript threads bytes script → split_lines (script_text script) ≡ canon (split_lines bytes)
+script_lines threads bytes script is = rw (is.length, is.lines) (printed-lines threads 1 (split_lines bytes) is.faultless)
 
 pub IsScript-script_text : (threads : Bool) (bytes : List ℕ) (script : Script) → IsScript threads bytes script → IsScript threads (script_text script) script
 IsScript-script_text threads bytes script is =
     let lines = script_lines threads bytes script is in
     record {
-      faultless = rw lines (first_fault-canon threads 1 (lines_of bytes) ∙ is.faultless);
-      lines = rw (lines, kept_lines-canon threads 1 (lines_of bytes)) is.lines;
-      length = rw (lines, length-canon (lines_of bytes)) is.length;
+      faultless = rw lines (first_fault-canon threads 1 (split_lines bytes) ∙ is.faultless);
+      lines = rw (lines, kept_lines-canon threads 1 (split_lines bytes)) is.lines;
+      length = rw (lines, length-canon (split_lines bytes)) is.length;
     }

@@ -5,11 +5,11 @@ use Rattle.std.proofs.lemmas.List.{take_all, drop_all}
 use Rattle.std.proofs.lemmas.Grind.{common_steps}
 use Rattle.fbc_script.specs.Pieces.{pieces_of}
 
--- where the first piece ends
+-- Where the first piece ends.
 abbrev end_of : ℕ → List ℕ → ℕ
 end_of separator bytes = position_or_len (λ byte. byte == separator) bytes
 
--- the first piece, and then the pieces behind its separator
+-- The first piece, and then the pieces behind its separator.
 abbrev Splits : ℕ → List ℕ → ℕ → List (List ℕ) → Type 0
 Splits separator bytes end pieces = pieces ≡ take end bytes ∷ pieces_of separator (drop (end + 1) bytes)
 
@@ -25,7 +25,7 @@ pub pieces_of-first : (separator : ℕ) (bytes : List ℕ) → 0 < length bytes 
 pieces_of-first separator [] some = absurd (omega arith)
 pieces_of-first separator (byte ∷ bytes) some = Splits-byte (byte == separator) separator byte bytes (pieces_of-first separator bytes)
 
--- what a guarded value tells
+-- What a guarded value tells.
 guarded_some : (is : Bool) (n end : ℕ) → cond is (Some n) None ≡ Some end → (is ≡ true) × (n ≡ end)
 guarded_some true n end found = (refl, cc)
 guarded_some false n end found = cc
@@ -34,7 +34,7 @@ guarded_none : (is : Bool) (n : ℕ) → cond is (Some n) None ≡ None → is �
 guarded_none true n whole = cc
 guarded_none false n whole = refl
 
--- where a separator was found, and where none was
+-- Where a separator was found, and where none was.
 pub pieces_of-found : (separator : ℕ) (bytes : List ℕ) (end : ℕ) → position (λ byte. byte == separator) bytes ≡ Some end → pieces_of separator bytes ≡ take end bytes ∷ pieces_of separator (drop (end + 1) bytes)
 pieces_of-found separator bytes end found =
     let at = guarded_some (ltb (end_of separator bytes) (length bytes)) (end_of separator bytes) end found in

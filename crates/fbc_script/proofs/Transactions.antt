@@ -23,7 +23,7 @@ guarded : {A : Type 0} (is : Bool) (a b : A) → (if is then Some a else None) �
 guarded true a b some = (refl, cc)
 guarded false a b some = cc
 
--- the tests of single orders
+-- The tests of single orders.
 attach-is : (order : Order) → is_attach order ≡ true → order ≡ Plain 1 statement.Attach
 attach-is (Plain at statement.Attach) is = ap (λ n. Plain n statement.Attach) (eqb-true _ _ is)
 attach-is _ is = cc
@@ -38,7 +38,7 @@ commit-is : (order : Order) → is_commit order ≡ true → order ≡ Plain 1 s
 commit-is (Plain at statement.Commit) is = ap (λ n. Plain n statement.Commit) (eqb-true _ _ is)
 commit-is _ is = cc
 
--- a step is read from its order alone
+-- A step is read from its order alone.
 here-is : (at : ℕ) (relation : List ℕ) → is_here at relation ≡ true → (at ≡ 1) × (relation ≡ codes "t")
 here-is at relation is =
     let both = both_true _ _ is in
@@ -69,7 +69,7 @@ commit-order_of (Read row) = refl
 abbrev orders_of : List Line → List Order
 orders_of lines = map (λ (line : Line). line.order) lines
 
--- what was read: the orders of the steps and the commit
+-- What was read: the orders of the steps and the commit.
 abbrev AreSteps : List Step → List Line → Type 0
 AreSteps steps lines = (orders_of lines ≡ map order_of steps ++ Plain 1 statement.Commit ∷ []) × AllByRecursion IsShort steps
 
@@ -101,7 +101,7 @@ steps-are (line ∷ lines) steps some = steps-by (is_commit line.order) line lin
 nothing-is : (order : Order) (orders : List Order) → [] ≡ order ∷ orders → ⊥
 nothing-is order orders are = cc
 
--- what the orders of steps and a commit give when they are read
+-- What the orders of steps and a commit give when they are read.
 steps-read : (lines : List Line) (steps : List Step) → orders_of lines ≡ map order_of steps ++ Plain 1 statement.Commit ∷ [] → AllByRecursion IsShort steps → steps_to_commit lines ≡ Some steps
 steps-read [] [] are short = absurd (nothing-is _ _ are)
 steps-read [] (step ∷ steps) are short = absurd (nothing-is _ _ are)
@@ -113,7 +113,7 @@ steps-read (line ∷ lines) (step ∷ steps) are short =
     let others : orders_of lines ≡ map order_of steps ++ Plain 1 statement.Commit ∷ [] = cc in
     rw (first, commit-order_of step, step_of-order_of step short.0, steps-read lines steps others short.1) refl
 
--- what lines ask for is what is read
+-- What lines ask for is what is read.
 transaction-read : (lines : List Line) (steps : List Step) → orders_of lines ≡ transaction_orders steps → AllByRecursion IsShort steps → count_by is_insert steps ≤ 45 → asked_by lines ≡ Some (Steps steps)
 transaction-read [] steps are short few = absurd (nothing-is _ _ are)
 transaction-read (line ∷ []) steps are short few =
@@ -144,7 +144,7 @@ has-steps attach begin lines steps size first second are few all = record {
   all = all;
 }
 
--- what is read is what lines ask for
+-- What is read is what lines ask for.
 asks-is : (asked : SingleTransaction) (lines : List Line) (size : ℕ) → size ≡ length lines → asked_by lines ≡ Some asked → Asks asked (record { lines = lines; length = size })
 asks-is asked [] size all some =
     let P : SingleTransaction → Type 0 = λ a. Asks a (record { lines = []; length = size }) in

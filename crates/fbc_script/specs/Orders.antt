@@ -9,14 +9,14 @@ use Rattle.fbc_script.specs.Pieces.{words_of, is_spaced}
 use Rattle.fbc_script.specs.Words.{read_attachment, read_count, read_step}
 use Rattle.fbc_script.specs.Statements.{◌>>=◌, no_words, one_word, two_words, read_statement}
 
--- an attachment's statement
+-- An attachment's statement.
 abbrev pub read_plain : List ℕ → List (List ℕ) → Result Order Why
 read_plain name words = do
   at ← read_attachment name
   statement ← read_statement words
   Ok (Plain at statement)
 
--- an attachment in its place and the words behind it
+-- An attachment in its place and the words behind it.
 abbrev pub read_at : List (List ℕ) → Result (ℕ × List (List ℕ)) Why
 read_at [] = Err why.Count
 read_at (name ∷ words) = do
@@ -50,13 +50,13 @@ read_trap words = do
   count ← read_count step.1
   Ok (Arm rest.0 (record { name = name; count = count }))
 
--- a line word without more
+-- A line word without more.
 abbrev pub read_lone : Order → List (List ℕ) → Result Order Why
 read_lone order words = do
   _ ← no_words words
   Ok order
 
--- the line that words spell; with threads the line words `post`, `step`, `run` and `reopen` are unknown
+-- The line that words spell; with threads the line words `post`, `step`, `run` and `reopen` are unknown.
 abbrev pub read_order_from : Bool → List ℕ → List (List ℕ) → Result Order Why
 read_order_from threads word words =
     if bytes_eq word (codes "kill") then read_kill words else (
@@ -70,6 +70,6 @@ abbrev pub read_order : Bool → List (List ℕ) → Result Order Why
 read_order threads [] = Err why.Count
 read_order threads (word ∷ words) = read_order_from threads word words
 
--- what a line that is not passed over asks for, or the first cause of its fault
+-- What a line that is not passed over asks for, or the first cause of its fault.
 abbrev pub read_line : Bool → List ℕ → Result Order Why
 read_line threads line = if is_spaced line then read_order threads (words_of line) else Err why.Space

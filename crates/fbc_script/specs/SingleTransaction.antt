@@ -12,17 +12,17 @@ use Rattle.fbc_script.specs.declared.single.Step.TheVariants.{Insert, Read}
 use Rattle.fbc_script.specs.declared.single.SingleTransaction.{SingleTransaction}
 use Rattle.fbc_script.specs.declared.single.SingleTransaction.TheVariants.{Absent, Steps}
 
--- the order of a step
+-- The order of a step.
 abbrev pub order_of : Step → Order
 order_of (Insert text) = Plain 1 (statement.Insert (codes "t") text)
 order_of (Read row) = Plain 1 (statement.Read (codes "t") row)
 
--- the orders of a transaction with these steps
+-- The orders of a transaction with these steps.
 abbrev pub transaction_orders : List Step → List Order
 transaction_orders steps =
     Plain 1 statement.Attach ∷ Plain 1 (statement.Begin true) ∷ map order_of steps ++ Plain 1 statement.Commit ∷ []
 
--- an insert has 1 to 10 bytes
+-- An insert has 1 to 10 bytes.
 abbrev pub is_short : List ℕ → Bool
 is_short text = nat_le 1 (length text) && nat_le (length text) 10
 
@@ -34,28 +34,28 @@ abbrev pub is_insert : Step → Bool
 is_insert (Insert text) = true
 is_insert (Read row) = false
 
--- the orders of the script are those of a transaction with these steps, at most 45 of them inserts, and no line is passed over
+-- The orders of the script are those of a transaction with these steps, at most 45 of them inserts, and no line is passed over.
 pub record HasSteps (steps : List Step) (script : Script) : Type 0 where
   pub orders : map (λ (line : Line). line.order) script.lines ≡ transaction_orders steps
   pub short : AllByRecursion IsShort steps
   pub few : count_by is_insert steps ≤ 45
   pub all : script.length ≡ length script.lines
 
--- the script asks for this: nothing where it has no lines at all
+-- The script asks for this: nothing where it has no lines at all.
 abbrev pub Asks : SingleTransaction → Script → Type 0
 Asks Absent script = (script.lines ≡ []) × (script.length ≡ 0)
 Asks (Steps steps) script = HasSteps steps script
 
--- a script of at most one transaction
+-- A script of at most one transaction.
 abbrev pub IsSingleTransaction : Script → Type 0
 IsSingleTransaction script = (asked : SingleTransaction) × Asks asked script
 
--- what was found is what the script asks for; nothing is found exactly where it is no such script
+-- What was found is what the script asks for; nothing is found exactly where it is no such script.
 abbrev pub Tells : Option SingleTransaction → Script → Type 0
 Tells None script = IsSingleTransaction script → ⊥
 Tells (Some asked) script = Asks asked script
 
--- the tests by which lines are read
+-- The tests by which lines are read.
 abbrev pub is_attach : Order → Bool
 is_attach (Plain at statement.Attach) = at == 1
 is_attach _ = false
@@ -71,22 +71,22 @@ is_commit _ = false
 abbrev pub is_opening : Line → Line → Bool
 is_opening attach begin = is_attach attach.order && is_begin begin.order
 
--- whether attachment 1 is asked over the relation `t`
+-- Whether attachment 1 is asked over the relation `t`.
 abbrev pub is_here : ℕ → List ℕ → Bool
 is_here at relation = at == 1 && bytes_eq relation (codes "t")
 
--- the step that an order asks for
+-- The step that an order asks for.
 abbrev pub step_of : Order → Option Step
 step_of (Plain at (statement.Insert relation text)) = if is_here at relation && is_short text then Some (Insert text) else None
 step_of (Plain at (statement.Read relation row)) = if is_here at relation then Some (Read row) else None
 step_of _ = None
 
--- a step before others
+-- A step before others.
 abbrev pub with_step : Option Step → Option (List Step) → Option (List Step)
 with_step (Some step) (Some steps) = Some (step ∷ steps)
 with_step _ _ = None
 
--- the steps up to the commit, which ends the lines
+-- The steps up to the commit, which ends the lines.
 abbrev pub if_last : List Line → Option (List Step)
 if_last [] = Some []
 if_last _ = None
@@ -106,7 +106,7 @@ if_few (Some steps) = if has_few_inserts steps then Some (Steps steps) else None
 abbrev pub few_steps : List Line → Option SingleTransaction
 few_steps lines = if_few (steps_to_commit lines)
 
--- what lines ask for, none of all lines being passed over
+-- What lines ask for, none of all lines being passed over.
 abbrev pub asked_by : List Line → Option SingleTransaction
 asked_by [] = Some Absent
 asked_by (attach ∷ []) = None

@@ -12,7 +12,7 @@ use Rattle.fbc_script.specs.declared.script.Order.TheVariants.{Plain, Post, Step
 use Rattle.fbc_script.specs.declared.script.Line.{Line}
 use Rattle.fbc_script.specs.declared.script.Script.{Script}
 
--- the word of an attachment: `a` and its number
+-- The word of an attachment: `a` and its number.
 abbrev pub attachment_word : ℕ → List ℕ
 attachment_word at = 97 ∷ decimal at
 
@@ -31,7 +31,7 @@ step_word step.Mark = codes "mark"
 step_word step.Poll = codes "poll"
 step_word step.Answer = codes "answer"
 
--- the words of a statement
+-- The words of a statement.
 abbrev pub statement_words : Statement → List (List ℕ)
 statement_words Attach = codes "attach" ∷ []
 statement_words (Begin wait) = codes "begin" ∷ mode_word wait ∷ []
@@ -46,7 +46,7 @@ statement_words Commit = codes "commit" ∷ []
 statement_words Rollback = codes "rollback" ∷ []
 statement_words Detach = codes "detach" ∷ []
 
--- the words of a line
+-- The words of a line.
 abbrev pub order_words : Order → List (List ℕ)
 order_words (Plain at statement) = attachment_word at ∷ statement_words statement
 order_words (Post at statement) = codes "post" ∷ attachment_word at ∷ statement_words statement
@@ -56,34 +56,34 @@ order_words (Kill at) = codes "kill" ∷ attachment_word at ∷ []
 order_words (Arm at trap) = codes "trap" ∷ attachment_word at ∷ step_word trap.name ∷ decimal trap.count ∷ []
 order_words Reopen = codes "reopen" ∷ []
 
--- words behind others, each after a space
+-- Words behind others, each after a space.
 abbrev pub behind_spaces : List (List ℕ) → List ℕ
 behind_spaces words = flat_map (λ (word : List ℕ). 32 ∷ word) words
 
--- words with single spaces between them
+-- Words with single spaces between them.
 abbrev pub joined : List (List ℕ) → List ℕ
 joined [] = []
 joined (word ∷ words) = word ++ behind_spaces words
 
--- the spelling of a line
+-- The spelling of a line.
 abbrev pub order_text : Order → List ℕ
 order_text order = joined (order_words order)
 
--- the text of the line with this number: it is empty where the next kept line has another number
+-- The text of the line with this number: it is empty where the next kept line has another number.
 abbrev pub text_at : ℕ → List Line → List ℕ
 text_at number [] = []
 text_at number (line ∷ lines) = if line.number == number then order_text line.order else []
 
--- the kept lines behind the line with this number
+-- The kept lines behind the line with this number.
 abbrev pub kept_behind : ℕ → List Line → List Line
 kept_behind number [] = []
 kept_behind number (line ∷ lines) = if line.number == number then lines else line ∷ lines
 
--- so many lines, counted from this number on, each with its line feed
+-- So many lines, counted from this number on, each with its line feed.
 abbrev pub lines_text : ℕ → ℕ → List Line → List ℕ
 lines_text zero number kept = []
 lines_text (suc more) number kept = text_at number kept ++ 10 ∷ lines_text more (number + 1) (kept_behind number kept)
 
--- the text of a script: each kept line in its place, and empty lines for those that were passed over
+-- The text of a script: each kept line in its place, and empty lines for those that were passed over.
 abbrev pub script_text : Script → List ℕ
 script_text script = lines_text script.length 1 script.lines

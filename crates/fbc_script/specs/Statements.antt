@@ -7,13 +7,13 @@ use Rattle.fbc_script.specs.declared.script.Statement.{Statement}
 use Rattle.fbc_script.specs.declared.script.Statement.TheVariants.{Attach, Begin, Insert, Update, Delete, Read, Scan, Reserve, Sweep, Commit, Rollback, Detach}
 use Rattle.fbc_script.specs.Words.{read_name, read_text, read_row, read_mode, read_level}
 
--- what follows from a value that was read; the first fault stands
+-- What follows from a value that was read; the first fault stands.
 infixl 10 ◌>>=◌
 abbrev pub ◌>>=◌ : {A B : Type 0} → Result A Why → (A → Result B Why) → Result B Why
 Ok value >>= f = f value
 Err cause >>= f = Err cause
 
--- so many words and no others
+-- So many words and no others.
 abbrev pub no_words : List (List ℕ) → Result (Unit {0}) Why
 no_words [] = Ok tt
 no_words _ = Err why.Count
@@ -30,13 +30,13 @@ abbrev pub three_words : List (List ℕ) → Result (List ℕ × List ℕ × Lis
 three_words (a ∷ b ∷ c ∷ []) = Ok (a, b, c)
 three_words _ = Err why.Count
 
--- a statement without arguments
+-- A statement without arguments.
 abbrev pub read_bare : Statement → List (List ℕ) → Result Statement Why
 read_bare statement arguments = do
   _ ← no_words arguments
   Ok statement
 
--- the arguments of the other statements, from left to right
+-- The arguments of the other statements, from left to right.
 abbrev pub read_begin : List (List ℕ) → Result Statement Why
 read_begin arguments = do
   mode ← one_word arguments
@@ -85,7 +85,7 @@ read_reserve arguments = do
   level ← read_level words.1
   Ok (Reserve relation level)
 
--- the statement that a statement word and its arguments give
+-- The statement that a statement word and its arguments give.
 abbrev pub read_arguments : List ℕ → List (List ℕ) → Result Statement Why
 read_arguments word arguments =
     if bytes_eq word (codes "attach") then read_bare Attach arguments else (
@@ -101,7 +101,7 @@ read_arguments word arguments =
     if bytes_eq word (codes "rollback") then read_bare Rollback arguments else (
     if bytes_eq word (codes "detach") then read_bare Detach arguments else Err why.Word)))))))))))
 
--- the statement that words spell, or the first cause: an unknown statement word, too few or too many words, an argument
+-- The statement that words spell, or the first cause: an unknown statement word, too few or too many words, an argument.
 abbrev pub read_statement : List (List ℕ) → Result Statement Why
 read_statement [] = Err why.Count
 read_statement (word ∷ arguments) = read_arguments word arguments

@@ -5,7 +5,7 @@ use Rattle.fbc_script.specs.declared.faults.ScriptFault.{ScriptFault}
 use Rattle.fbc_script.specs.declared.faults.Why.{Why}
 use Rattle.fbc_script.specs.declared.faults.Why.TheVariants as why
 
--- the word that names a cause
+-- The word that names a cause.
 abbrev pub why_text : Why → List ℕ
 why_text why.Space = codes "space"
 why_text why.Attachment = codes "attachment"
@@ -15,6 +15,6 @@ why_text why.Name = codes "name"
 why_text why.Number = codes "number"
 why_text why.Text = codes "text"
 
--- the text of a fault: the line's number and the cause
+-- The text of a fault: the line's number and the cause.
 abbrev pub fault_text : ScriptFault → List ℕ
 fault_text fault = decimal fault.line ++ codes " " ++ why_text fault.why

@@ -39,7 +39,7 @@ pub fn parse(alloc: Global, bytes: &[u8], threads: bool) -> Result<Script, Parse
 
 /// How many lines are not passed over.
 fn count_kept(bytes: &[u8]) -> usize
-    ensures { result ≡ count_by (λ line. not (pieces.is_passed_over line)) (pieces.lines_of bytes.now) }
+    ensures { result ≡ count_by (λ line. not (pieces.is_passed_over line)) (pieces.split_lines bytes.now) }
 {
     let mut rest = bytes;
     let mut count = 0;

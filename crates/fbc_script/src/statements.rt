@@ -156,7 +156,8 @@ pub fn two_words(words: &[u8]) -> Result<(&[u8], &[u8]), Why>
 
 /// Three words and no others.
 pub fn three_words(words: &[u8]) -> Result<(&[u8], &[u8], &[u8]), Why>
-    ensures { MatchResult result (λ w. spec.three_words (words_of words.now) ≡ Ok (w.0.now, w.1.now, w.2.now)) (λ e. spec.three_words (words_of words.now) ≡ Err e) }
+    ensures { MatchResult result (λ w. spec.three_words (words_of words.now) ≡ Ok (w.0.now, w.1.now, w.2.now))
+        (λ e. spec.three_words (words_of words.now) ≡ Err e) }
 {
     let (first, rest) = split_piece(words, b' ').ok_or(Why::Count)?;
     let (second, third) = two_words(rest)?;

@@ -22,20 +22,17 @@ use Rattle.fbc_numbers.proofs.CutFacts.{clash}
 use Rattle.fbc_numbers.proofs.Opens.{IsOther, open-dead, open-written}
 use Rattle.fbc_simulation.specs.Beside.{AreOpenIn, commits_in}
 use Rattle.fbc_simulation.proofs.LivingOwners.{none_living}
+use Rattle.fbc_legal.proofs.Pairs.{kept_draft}
 
 -- What is open beside a cut was open beside the cut before, and with the others at their ends the machine is the same.
 pub record LeadsTo (w : World) (machine : Machine) (earlier : Cut) (after : World) (later : Machine) (cut : Cut) (living : List Transaction) : Type 0 where
   pub opens : AreOpenIn w earlier living
   pub same : settled_by living (commits_in after cut) later ≡ settled_by living (commits_in w earlier) machine
 
--- a dead owner's draft is lost, and another's is left
+-- A dead owner's draft is lost, and another's is left.
 lost_draft : (owner : ℕ) (draft : Option Draft) → is_draft_of owner draft ≡ true → is_some (without owner draft) ≡ false
 lost_draft owner None its = absurd cc
 lost_draft owner (Some draft) its = grind (arith, its)
-
-spared_draft : (owner other : ℕ) (draft : Option Draft) → other == owner ≡ false → is_draft_of other draft ≡ true → is_draft_of other (without owner draft) ≡ true
-spared_draft owner other None apart its = absurd cc
-spared_draft owner other (Some draft) apart its = grind (arith, nat_tests, apart, its)
 
 two_drafters : (owner other : ℕ) (draft : Option Draft) → is_draft_of owner draft ≡ true → is_draft_of other draft ≡ true → other ≡ owner
 two_drafters owner other None its also = absurd cc
@@ -49,7 +46,7 @@ module _ (w : World) (m : MarksAreDrafted w) (owner : ℕ) (cut : Cut) (living :
     died-opens : AreOpenIn w cut living
     died-opens = record {
       each = λ t lives. (other_one t lives).open_is.was;
-      drafts = λ t page lives its. opens.drafts t page lives (spared_draft owner t.owner (w.draft page) (other_one t lives).apart its);
+      drafts = λ t page lives its. opens.drafts t page lives (kept_draft owner t.owner (w.draft page) (other_one t lives).apart its);
     }
 
     gone : is_owner_of living owner ≡ false
@@ -87,7 +84,7 @@ module _ (w : World) (m : MarksAreDrafted w) (owner : ℕ) (cut : Cut) (living :
       in_wider t p lives own true same = refl
       in_wider t p lives own false other = opens.drafts t p lives (rw other own)
 
-    -- whose mark is written is open no more
+    -- Whose mark is written is open no more.
     ended : is_mark_on page (w.marked owner) ≡ true → is_owner_of living owner ≡ false
     ended marked = none_living living owner (λ t lives same. over t (subst (λ o. after.transaction o ≡ Some t) same (opens.each t lives))) where
       over : (t : Transaction) → after.transaction owner ≡ Some t → ⊥
@@ -96,7 +93,7 @@ module _ (w : World) (m : MarksAreDrafted w) (owner : ℕ) (cut : Cut) (living :
         go true key found = absurd (let none : None ≡ Some t = sym (ap (λ c. if c then None else w.transaction owner) marked) ∙ found in cc)
         go false key found = cc
 
-    -- the marks of the others stand on other pages
+    -- The marks of the others stand on other pages.
     other_mark : (o : ℕ) (mark : Option ℕ) → ¬ (o ≡ owner) → IsMarkDrafted w o mark → option_map_or cut mark false ≡ option_map_or (with_one page cut) mark false
     other_mark o None differ held = refl
     other_mark o (Some p) differ held = go (p == page) refl where
@@ -107,7 +104,7 @@ module _ (w : World) (m : MarksAreDrafted w) (owner : ℕ) (cut : Cut) (living :
     others_mark : (o : ℕ) → ¬ (o ≡ owner) → commits_in after cut o ≡ commits_in w (with_one page cut) o
     others_mark o differ = rw (test_of_different o owner differ) (other_mark o (w.marked o) differ (m o))
 
-    -- without the mark nothing is committed by the write
+    -- Without the mark nothing is committed by the write.
     same_mark : (mark : Option ℕ) → is_mark_on page mark ≡ false → option_map_or cut mark false ≡ option_map_or (with_one page cut) mark false
     same_mark None is = refl
     same_mark (Some p) is = rw is refl

@@ -18,7 +18,7 @@ use Rattle.fbc_world.specs.World.{World, dead, granted_level, is_begin, is_mark_
 abbrev pub OpensAlike : World → Machine → Type 0
 OpensAlike w machine = (owner : ℕ) → IsSameOpen (w.transaction owner) (open_transaction machine owner)
 
--- an owner's end leaves it none, and the others theirs
+-- An owner's end leaves it none, and the others theirs.
 module _ (who : ℕ) (now : Standing) (closed : is_open now ≡ false) where
   own_fails : (t : Transaction) → is_open_of who (ended who now t) ≡ false
   own_fails t = go (is_open_of who t) refl where
@@ -52,7 +52,7 @@ module _ (who : ℕ) (now : Standing) (closed : is_open now ≡ false) where
       go false is later = rw (other_fails t is) later
 
 module _ (w : World) (machine : Machine) (alike : OpensAlike w machine) (owner : ℕ) where
-  -- an owner's transaction ends on both sides
+  -- An owner's transaction ends on both sides.
   ended_alike : (now : Standing) → is_open now ≡ false → (o : ℕ) (b : Bool) → o == owner ≡ b → IsSameOpen (if b then None else w.transaction o) (open_transaction (after_end machine owner now) o)
   ended_alike now closed o true its =
       subst (IsSameOpen None) (sym (ap (open_transaction (after_end machine owner now)) (same_from_test o owner its) ∙ none_left owner now closed machine.transactions)) tt
@@ -85,7 +85,7 @@ module _ (w : World) (machine : Machine) (alike : OpensAlike w machine) (owner :
     pub granted-alike : is_begin resource level ≡ false → OpensAlike (granted_level w owner resource level) machine
     granted-alike plain o = rw (plain, and_fails_right (o == owner) false refl) (alike o)
 
-    -- a transaction begins on both sides, with the same snapshot
+    -- A transaction begins on both sides, with the same snapshot.
     module _ (begins : is_begin resource level ≡ true) (none : w.transaction owner ≡ None)
         (committed : (number : ℕ) → is_held (committed_numbers (meaning_of (newest_of w)).transactions) number ≡ is_held (committed_numbers machine.transactions) number) where
       pub none_there : open_transaction machine owner ≡ None

@@ -40,14 +40,14 @@ module _ (shape : Shape) (file : View) (before : History) (moment : Moment) (s :
   abbrev pub commands : List Command
   commands = commands_at shape w moment.event.actor moment.event.act moment.landed
 
-  -- the view of a cut after reads as the machine after the act's commands
+  -- The view of a cut after reads as the machine after the act's commands.
   abbrev pub IsMeantNow : Cut → List Transaction → Type 0
   IsMeantNow cut living = ReadsAs (meaning_with living (view after cut)) (settled_by living (commits_in after cut) (machine_after machine commands))
 
   one_run : machine_of shape file (moment ∷ before) ≡ machine_after machine commands
   one_run = machine_after-append (meaning_of file) (commands_of shape file before) commands
 
-  -- what is shown of the act's own commands holds of the whole run
+  -- What is shown of the act's own commands holds of the whole run.
   pub simulated_by : MayAllCome machine commands → OpensAlike after (machine_after machine commands)
       → ((cut : Cut) (living : List Transaction) → IsClosedCut after cut → AreOpenIn after cut living → IsMeantNow cut living)
       → IsSimulated (scene_of shape file (moment ∷ before))

@@ -48,7 +48,7 @@ module _ (at : Scene) (m : MarksAreDrafted at.world) (owner : ℕ) (machine : Ma
   commit_comes true = (refl, tt)
   commit_comes false = tt
 
-  -- a death, where the pages of the cut are left
+  -- A death, where the pages of the cut are left.
   dies : (landed : Bool) → IsBeside w machine (acted at.shape w owner Die landed) (command.Kill owner ∷ []) (λ cut. cut)
   dies landed = record {
     comes = (refl, tt);
@@ -74,7 +74,7 @@ module _ (at : Scene) (m : MarksAreDrafted at.world) (owner : ℕ) (machine : Ma
     wrote_opens : (cut : Cut) (living : List Transaction) → AreOpenIn (written w owner page) cut living → LeadsTo w machine (with_one page cut) (written w owner page) between cut living
     wrote_opens cut living opens = wrote-leads w m owner cut living machine page its opens
 
-    -- a death behind the write
+    -- A death behind the write.
     died_opens : (cut : Cut) (living : List Transaction) → ((p : ℕ) → cut p ≡ true → is_some (without owner ((written w owner page).draft p)) ≡ true) → AreOpenIn (dead (written w owner page) owner) cut living
         → LeadsTo w machine (with_one page cut) (dead (written w owner page) owner) (after_end between owner standing.RolledBack) cut living
     died_opens cut living fits opens =
@@ -100,7 +100,7 @@ module _ (at : Scene) (m : MarksAreDrafted at.world) (owner : ℕ) (machine : Ma
           record { opens = from.opens; same = ap (settled_by living (commits_in (dead (written w owner page) owner) cut)) write_and_death ∙ from.same };
     }
 
-  -- a write that fails and does not land
+  -- A write that fails and does not land.
   loses : (page : ℕ) (reason : Cause) → IsBeside w machine (acted at.shape w owner (Write page reason true) false) (command.Kill owner ∷ []) (λ cut. cut)
   loses page reason = let died = dies false in record {
     comes = died.comes;
@@ -110,7 +110,7 @@ module _ (at : Scene) (m : MarksAreDrafted at.world) (owner : ℕ) (machine : Ma
         record { opens = from.opens; same = from.same };
   }
 
-  -- a grant that begins nothing
+  -- A grant that begins nothing.
   grants : (resource : Resource) (level : Level) (landed : Bool) → is_begin resource level ≡ false → IsBeside w machine (acted at.shape w owner (Grant resource level) landed) [] (λ cut. cut)
   grants resource level landed plain = record {
     comes = tt;

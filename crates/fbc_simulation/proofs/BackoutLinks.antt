@@ -9,8 +9,9 @@ use Rattle.fbc_kinds.specs.declared.snapshots.Transaction.{Transaction}
 use Rattle.fbc_kinds.specs.Reach.{DataRole, LinksTo, ReachesCell, Reaches}
 use Rattle.fbc_kinds.specs.Sound.{IsBackValue}
 use Rattle.fbc_kinds.specs.View.{View, cell_at, cell_in, is_back}
-use Rattle.fbc_rows.specs.Forms.{IsRaised, NameTheSame, NamesNone}
-use Rattle.fbc_rows.specs.Open.{IsSettled}
+use Rattle.fbc_version_edits.specs.Forms.{IsRaised, NamesNone}
+use Rattle.fbc_page_edits.specs.Facing.{NameTheSame}
+use Rattle.fbc_version_edits.specs.Open.{IsSettled}
 use Rattle.fbc_world.specs.History.{History}
 use Rattle.fbc_legal.specs.Guards.{GuardOfEdit}
 use Rattle.fbc_legal.specs.Rows.{IsBackout}
@@ -22,8 +23,8 @@ use Rattle.fbc_numbers.specs.Numbers.{is_committed_in}
 use Rattle.fbc_numbers.proofs.CutFacts.{clash}
 use Rattle.fbc_origins.proofs.PutPages.{IsPutPage, every_draft, newest-closed, newest-shape, newest-sound, newest-view, put-page, put-reached}
 use Rattle.fbc_origins.proofs.PutsAllowed.{allows-backout, linked}
-use Rattle.fbc_settled_rows.proofs.NamedEverywhere.{named-everywhere}
-use Rattle.fbc_settled_rows.proofs.CutsNext.{cuts-in-views}
+use Rattle.fbc_origins.proofs.NamedEverywhere.{named-everywhere}
+use Rattle.fbc_origins.proofs.CutsNext.{cuts-in-views}
 use Rattle.fbc_simulation.specs.EditIn.{IsEditIn}
 use Rattle.fbc_simulation.proofs.NoLinks.{no-link}
 use Rattle.fbc_simulation.proofs.OpenNumbers.{settled-in}
@@ -48,7 +49,7 @@ module _ (shape : Shape) (file : View) (past : History) (owner page cell : ℕ) 
   some_link : (f.old.back_page == 0) ≡ false
   some_link = linked at is.whole.order.upheld is.whole.order.numbered is.whole.order.original owner page cell new g seen origin is.sees.sees f
 
-  -- the newest pages have the row
+  -- The newest pages have the row.
   newest_page : Reaches (newest_at at) (DataRole p.data_page.relation p.data_page.sequence) page
   newest_page = put-reached at owner page cell new g is.whole.order.upheld
 
@@ -59,7 +60,7 @@ module _ (shape : Shape) (file : View) (past : History) (owner page cell : ℕ) 
     names = record { some = some_link; page_is = refl; cell_is = refl };
   }
 
-  -- so has the view, since its top is settled
+  -- So has the view, since its top is settled.
   seen_link : LinksTo seen p.data_page.relation page cell f.old f.old.back_page f.old.back_cell
   seen_link = record {
     reached = ReachesCell.top p.data_page.sequence page cell f.old
@@ -73,7 +74,7 @@ module _ (shape : Shape) (file : View) (past : History) (owner page cell : ℕ) 
   pub raised : IsRaised seen new f.old.back_page f.old.back_cell
   raised = (allows-backout at is.whole.order.upheld is.whole.order.numbered is.whole.order.original owner page cell new g seen origin is.sees.sees f).raised p.data_page.relation seen_link
 
-  -- the version below is the same one in both, by its stamp
+  -- The version below is the same one in both, by its stamp.
   newest_meant : (newest_stamps at.world at.stamps page).meant cell ≡ born_at at f.old.back_page f.old.back_cell
   newest_meant = ap (λ (s : Stamps). s.meant cell) (sym (same_stamps page)) ∙ meant_in ∙ ap (λ (s : Stamps). s.born f.old.back_cell) (same_stamps f.old.back_page) where
     meant_in : (view_stamps at.world at.stamps (every_draft at.world) page).meant cell ≡ (view_stamps at.world at.stamps (every_draft at.world) f.old.back_page).born f.old.back_cell
@@ -95,14 +96,14 @@ module _ (shape : Shape) (file : View) (past : History) (owner page cell : ℕ) 
   one_number : new.number ≡ f.back.number
   one_number = ap (λ (v : Cell). v.number) f.same
 
-  -- where the view's version has a link, and the new one none, its number is settled
+  -- Where the view's version has a link, and the new one none, its number is settled.
   pub alone-settled : raised.below.back_page ≢ 0 → NamesNone new → IsSettled seen living new.number
   alone-settled some none =
       subst (IsSettled seen living) (sym one_number)
       (settled-in at is.whole cut is.closed living is.opens f.back.number
       (cuts-in-views at is.whole.cuts cut f.old.back_page f.old.back_cell raised.below f.back raised.stands f.below one_born some (sym (ap (λ (v : Cell). v.back_page) f.same) ∙ none)))
 
-  -- where neither has one, both name the same
+  -- Where neither has one, both name the same.
   pub both-none : raised.below.back_page ≡ 0 → NamesNone new → NameTheSame raised.below new
   both-none none also = record { page = also ∙ sym none; cell = new_cell ∙ sym old_cell } where
     old_value : IsBackValue seen p.data_page.relation f.old.back_page f.old.back_cell f.old.number
@@ -124,7 +125,7 @@ module _ (shape : Shape) (file : View) (past : History) (owner page cell : ℕ) 
     new_cell = ap (λ (v : Cell). v.back_cell) f.same
         ∙ no-link shape (newest_at at) f.old.back_page f.old.back_cell f.back (newest-shape at is.whole.order.upheld) f.below is_new (sym (ap (λ (v : Cell). v.back_page) f.same) ∙ also)
 
-  -- the number below is committed in the newest pages, so it is not the owner's
+  -- The number below is committed in the newest pages, so it is not the owner's.
   pub backout-apart : (t : Transaction) → at.world.transaction owner ≡ Some t → ¬ (t.number ≡ new.number)
   backout-apart t open_is one =
       absurd

@@ -13,6 +13,7 @@ use Rattle.fbc_kinds.specs.Sound.{IsSound}
 use Rattle.fbc_kinds.specs.View.{View, next_of}
 use Rattle.fbc_runs.specs.Orderly.{StandsAt}
 use Rattle.fbc_runs.proofs.CommittedNumbers.{held_by_committed}
+use Rattle.fbc_runs.proofs.CommittedOnes.{both_ways}
 use Rattle.fbc_runs.proofs.Opens.{own_found}
 use Rattle.fbc_runs.proofs.Searches.{all_from}
 use Rattle.fbc_world.specs.History.{History}
@@ -28,7 +29,7 @@ use Rattle.fbc_numbers.proofs.CutFacts.{all-closed, all-view, all_drafts, commit
 use Rattle.fbc_soundness.specs.Whole.{IsWhole}
 use Rattle.fbc_simulation.specs.Beside.{commits_in, machine_of}
 use Rattle.fbc_simulation.specs.Simulated.{IsSimulated}
-use Rattle.fbc_simulation.proofs.CommittedOnes.{IsCommittedNumber, both_ways, committed_begun, committed_is_held, ends_commit_nothing, held_is_committed}
+use Rattle.fbc_simulation.proofs.CommittedOnes.{IsCommittedNumber, committed_begun, committed_is_held, ends_commit_nothing, held_is_committed}
 
 none_in : (t : Transaction) → ¬ Contains [] t
 none_in t at = absurd (grind (arith, at.1))
@@ -56,7 +57,7 @@ module _ (shape : Shape) (file : View) (past : History) (legal : IsLegal shape f
   no_commits None = refl
   no_commits (Some page) = refl
 
-  -- the machine has committed what the file shows as committed
+  -- The machine has committed what the file shows as committed.
   pub machine_commits : (number : ℕ) → is_held (committed_numbers (meaning_of w.kept).transactions) number ≡ is_held (committed_numbers machine.transactions) number
   machine_commits number =
       (s.meant no_draft [] (none-closed w) (record { each = λ t lives. absurd (none_in t lives); drafts = λ t page lives its. absurd (none_in t lives) })).means.committed number
@@ -66,7 +67,7 @@ module _ (shape : Shape) (file : View) (past : History) (legal : IsLegal shape f
     newest_kept : (n : ℕ) → is_committed_in (newest_of w) n ≡ is_committed_in w.kept n
     newest_kept n = legal-begin-committed shape file past owner number word n legal u k may
 
-    -- a snapshot that is taken now holds the same in every view
+    -- A snapshot that is taken now holds the same in every view.
     module _ (cut : Cut) (closed : IsClosedCut w cut) (living : List Transaction) (opened : (t : Transaction) → Contains living t → t.standing ≡ standing.Open)
         (out : (t : Transaction) → Contains living t → is_committed_in w.kept t.number ≡ false) where
       sound_view : IsSound (view w cut)
@@ -90,11 +91,11 @@ module _ (shape : Shape) (file : View) (past : History) (legal : IsLegal shape f
           (λ held. committed_is_held (view w cut) living sound_view opened n (in_view n (held_is_committed (newest_of w) [] sound_newest (λ t lives. absurd (none_in t lives)) n held)))
           (λ held. committed_is_held (newest_of w) [] sound_newest (λ t lives. absurd (none_in t lives)) n (in_newest n (held_is_committed (view w cut) living sound_view opened n held)))
 
-    -- and so it does in the machine
+    -- And so it does in the machine.
     pub snapshot_commits : (n : ℕ) → is_held (committed_numbers (meaning_of (newest_of w)).transactions) n ≡ is_held (committed_numbers machine.transactions) n
     snapshot_commits n = view_commits no_draft (none-closed w) [] (λ t lives. absurd (none_in t lives)) (λ t lives. absurd (none_in t lives)) n ∙ machine_commits n
 
-    -- every transaction of the machine that is not rolled back has a smaller number
+    -- Every transaction of the machine that is not rolled back has a smaller number.
     pub smaller_stand : (place : ℕ) (t : Transaction) → StandsAt machine.transactions place t → t.number < number
     smaller_stand place t stands = go t.standing refl where
       open_one : (o : Option Transaction) → w.transaction t.owner ≡ o → IsSameOpen o (Some t) → t.number < number
@@ -113,7 +114,7 @@ module _ (shape : Shape) (file : View) (past : History) (legal : IsLegal shape f
           grind (arith, below, new)
       go standing.RolledBack is = absurd (let rolled : true ≡ false = sym (ap is_rolled_back is) ∙ stands.1 in cc)
 
-    -- so the begin may come
+    -- So the begin may come.
     pub begin_comes : is_greater_number machine.transactions number ≡ true
     begin_comes = all_from (λ (t : Transaction). is_rolled_back t.standing || nat_lt t.number number) machine.transactions (λ place t at. each place t at (is_rolled_back t.standing) refl) where
       each : (place : ℕ) (t : Transaction) → slice_get machine.transactions place ≡ Some t → (b : Bool) → is_rolled_back t.standing ≡ b → (b || nat_lt t.number number) ≡ true

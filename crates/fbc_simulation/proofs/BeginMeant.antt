@@ -15,7 +15,7 @@ use Rattle.fbc_levels.specs.declared.resources.Resource.{Resource}
 use Rattle.fbc_levels.specs.LockState.{request_of}
 use Rattle.fbc_meanings.specs.Beside.{IsApart}
 use Rattle.fbc_meanings.proofs.BegunOnes.{begun_gains, none_has_next}
-use Rattle.fbc_rows.specs.Open.{AreOpen}
+use Rattle.fbc_version_edits.specs.Open.{AreOpen}
 use Rattle.fbc_runs.specs.Ended.{is_owner_of, settled_by}
 use Rattle.fbc_runs.specs.Reading.{Gains, ReadsAs}
 use Rattle.fbc_runs.proofs.BeginsRead.{begun_reads}
@@ -95,13 +95,13 @@ module _ (shape : Shape) (file : View) (before : History) (owner : ℕ) (resourc
   none_open : open_transaction machine owner ≡ None
   none_open = none_there w machine s.opens owner resource level begins may.none_open commits_same
 
-  -- another's transaction was open before
+  -- Another's transaction was open before.
   was : (t : Transaction) → ¬ (t.owner ≡ owner) → after.transaction t.owner ≡ Some t → w.transaction t.owner ≡ Some t
   was t differ is = sym others_same ∙ is where
     others_same : after.transaction t.owner ≡ w.transaction t.owner
     others_same = rw (test_of_different t.owner owner differ) refl
 
-  -- the owner's is the new one
+  -- The owner's is the new one.
   is_new : (t : Transaction) → t.owner ≡ owner → after.transaction t.owner ≡ Some t → t ≡ new
   is_new t same is = same_Some t new (sym is ∙ now) where
     now : after.transaction t.owner ≡ Some new
@@ -121,7 +121,7 @@ module _ (shape : Shape) (file : View) (before : History) (owner : ℕ) (resourc
     unmarked None held = refl
     unmarked (Some page) held = absurd (clash (is_some (w.transaction owner)) held.1 (rw may.none_open refl))
 
-    -- where the new transaction ends, it is not read
+    -- Where the new transaction ends, it is not read.
     without_new : is_owner_of living owner ≡ false → ReadsAs (meaning_with living seen) (settled_by living commits (after_begin machine owner number))
     without_new none =
         begin_unread living commits owner none (unmarked (w.marked owner) (u.marks owner)) (meaning_with living seen) machine

@@ -16,7 +16,7 @@ use Rattle.fbc_world.specs.History.{History}
 use Rattle.fbc_world.specs.World.{World, world_of}
 use Rattle.fbc_legal.specs.Scene.{Scene, scene_of}
 use Rattle.fbc_closed_cuts.specs.Cut.{Cut, view}
-use Rattle.fbc_rows.specs.Open.{AreOpen}
+use Rattle.fbc_version_edits.specs.Open.{AreOpen}
 use Rattle.fbc_simulation.specs.Beside.{commits_in, machine_of}
 use Rattle.fbc_simulation.specs.EditIn.{IsEditIn, commits_made, is_commit}
 use Rattle.fbc_simulation.proofs.LivingOwners.{same_value}
@@ -36,7 +36,7 @@ module _ (shape : Shape) (file : View) (past : History) (owner page : ℕ) (e : 
   abbrev pub machine : Machine
   machine = machine_of shape file past
 
-  -- the machine that the view reads as
+  -- The machine that the view reads as.
   abbrev pub beside : Machine
   beside = settled_by living (commits_in w cut) machine
 
@@ -49,11 +49,11 @@ module _ (shape : Shape) (file : View) (past : History) (owner page : ℕ) (e : 
   pub owners-differ : OwnersDiffer beside.transactions
   owners-differ = (settled_by_orderly living (commits_in w cut) machine is.simulated.orderly).owners
 
-  -- the owner has made no mark
+  -- The owner has made no mark.
   pub no-commit : commits_in w cut owner ≡ false
   no-commit = rw is.sees.guard.unmarked refl
 
-  -- so the commits are as before, where the edit is none
+  -- So the commits are as before, where the edit is none.
   pub same-ends : is_commit e (w.transaction owner) ≡ false → (m : Machine) → settled_by living (commits_made w owner e cut) m ≡ settled_by living (commits_in w cut) m
   same-ends none m = sym (other_commits_same living (commits_in w cut) (commits_made w owner e cut) each m) where
     each : (other : ℕ) → is_owner_of living other ≡ false → commits_in w cut other ≡ commits_made w owner e cut other

@@ -1,6 +1,5 @@
 -- A change that is carried out in the newest pages may come to the machine, and is answered that it is done.
 use Rattle.std.proofs.Common.{◌≡◌, ◌∙◌, ℕ, Bool, true, List, [], ◌∷◌, Some, None, sym, ap, subst}
-use Rattle.std.specs.Prelude.{All}
 use Rattle.std.proofs.lemmas.List.Elements.{All-cons, All-nil}
 use Rattle.fbc_kinds.specs.declared.commands.Command.{Command}
 use Rattle.fbc_kinds.specs.declared.commands.Command.TheVariants as command
@@ -12,7 +11,6 @@ use Rattle.fbc_kinds.specs.declared.snapshots.Transaction.{Transaction}
 use Rattle.fbc_kinds.specs.Machine.{IsReply, Machine, MayCome, machine_step}
 use Rattle.fbc_kinds.specs.View.{View}
 use Rattle.fbc_runs.specs.Ended.{is_owner_of, settled_by}
-use Rattle.fbc_runs.specs.Runs.{MayAllCome}
 use Rattle.fbc_runs.proofs.LivingOnes.{change_same, put_same}
 use Rattle.fbc_world.specs.History.{History}
 use Rattle.fbc_world.specs.World.{World, world_of}
@@ -21,6 +19,7 @@ use Rattle.fbc_legal.specs.Scene.{Scene, scene_of}
 use Rattle.fbc_soundness.specs.Whole.{IsWhole}
 use Rattle.fbc_simulation.specs.Beside.{commits_in, machine_of}
 use Rattle.fbc_simulation.specs.Carried.{IsChangeOf, IsPutCarriedOut, done_reply}
+use Rattle.fbc_simulation.specs.Changes.{AreDone}
 use Rattle.fbc_simulation.specs.EditIn.{commands_made}
 use Rattle.fbc_simulation.specs.Newest.{all_drafts, opens_at}
 use Rattle.fbc_simulation.specs.Simulated.{IsSimulated}
@@ -28,18 +27,13 @@ use Rattle.fbc_simulation.proofs.LivingOwners.{lives_of}
 use Rattle.fbc_simulation.proofs.OpensListed.{open-listed}
 use Rattle.fbc_simulation.proofs.WholeMachine.{whole-machine}
 
--- the commands come, and are done
-pub record AreDone (machine : Machine) (commands : List Command) : Type 0 where
-  pub come : MayAllCome machine commands
-  pub answered : All (λ (asked : Command). IsReply machine asked (done_reply asked)) commands
-
 pub none-done : (machine : Machine) (commands : List Command) → commands ≡ [] → AreDone machine commands
 none-done machine commands none = subst (AreDone machine) (sym none) (record { come = tt; answered = All-nil _ })
 
 pub one-done : (machine : Machine) (asked : Command) (commands : List Command) → commands ≡ asked ∷ [] → MayCome machine asked → IsReply machine asked (done_reply asked) → AreDone machine commands
 one-done machine asked commands one comes answered = subst (AreDone machine) (sym one) (record { come = (comes, tt); answered = All-cons (λ (c : Command). IsReply machine c (done_reply c)) asked [] answered (All-nil _) })
 
--- what a living owner changes comes to the same where the others are at their ends
+-- What a living owner changes comes to the same where the others are at their ends.
 pub living-changes : (living : List Transaction) (commits : ℕ → Bool) (m : Machine) (owner : ℕ) (asked : Command) → is_owner_of living owner ≡ true → IsChangeOf owner asked
     → IsReply m asked (done_reply asked) → IsReply (settled_by living commits m) asked (done_reply asked)
     → settled_by living commits (machine_step m asked) ≡ machine_step (settled_by living commits m) asked
@@ -55,7 +49,7 @@ module _ (shape : Shape) (file : View) (past : History) (whole : IsWhole (scene_
   abbrev w : World
   w = world_of shape file past
 
-  -- who has an open transaction goes on in the newest pages
+  -- Who has an open transaction goes on in the newest pages.
   pub open-lives : (t : Transaction) → HasOpen at owner t → is_owner_of (opens_at at) owner ≡ true
   open-lives t is = subst (λ who. is_owner_of (opens_at at) who ≡ true) (whole.order.numbered.stand owner t is).own (lives_of (opens_at at) t (open-listed shape file past whole.order.numbered.stand owner t is))
 

@@ -12,10 +12,10 @@ use Rattle.fbc_kinds.specs.Meaning.{meaning_with}
 use Rattle.fbc_kinds.specs.declared.pages.Flag.TheVariants.{Deletion}
 use Rattle.fbc_kinds.specs.View.{View, cell_at, is_back, is_committed_state, is_top}
 use Rattle.fbc_runs.specs.Reading.{ReadsAs}
-use Rattle.fbc_views.specs.Allowed.{Fits}
-use Rattle.fbc_views.specs.Edited.{with_page}
-use Rattle.fbc_rows.specs.Forms.{IsDeletedRow, IsLoneVersion, IsUnnamedValue}
-use Rattle.fbc_rows.specs.Puts.{IsClearIn}
+use Rattle.fbc_page_edits.specs.Allowed.{Fits}
+use Rattle.fbc_page_edits.specs.Edited.{with_page}
+use Rattle.fbc_version_edits.specs.Forms.{IsDeletedRow, IsLoneVersion, IsUnnamedValue}
+use Rattle.fbc_version_edits.specs.Puts.{IsClearIn}
 use Rattle.fbc_world.specs.History.{History}
 use Rattle.fbc_legal.specs.Rows.{IsSettled as IsSettledAt}
 use Rattle.fbc_legal.specs.Scene.{Scene, newest_at, scene_of}
@@ -43,7 +43,7 @@ module _ (shape : Shape) (file : View) (past : History) (owner page cell : ℕ) 
   pub stands : (old : Cell) → cell_at (newest_at at) page cell ≡ Some old → cell_at before page cell ≡ Some old
   stands old there = stands-seen at owner page before origin is.sees.sees cell old there
 
-  -- a dead version without a back version
+  -- A dead version without a back version.
   abbrev pub lone : (old : Cell) → cell_at (newest_at at) page cell ≡ Some old → is_top old.flag ≡ true → state_of (newest_at at) old.number ≡ Dead → old.back_page ≡ 0 → IsLoneVersion before page cell
   lone old there top dead alone = record {
     old = old;
@@ -53,7 +53,7 @@ module _ (shape : Shape) (file : View) (past : History) (owner page cell : ℕ) 
     alone = alone;
   }
 
-  -- a settled deletion
+  -- A settled deletion.
   abbrev pub deleted : (old : Cell) → cell_at (newest_at at) page cell ≡ Some old → old.flag ≡ Deletion → IsSettledAt at old.number → IsDeletedRow before page cell
   deleted old there deletion settled = record {
     old = old;
@@ -62,7 +62,7 @@ module _ (shape : Shape) (file : View) (past : History) (owner page cell : ℕ) 
     committed = (settled-in at is.whole cut is.closed living is.opens old.number settled).committed;
   }
 
-  -- a back value that is not reached
+  -- A back value that is not reached.
   pub unnamed : (old : Cell) → cell_at (newest_at at) page cell ≡ Some old → is_back old.flag ≡ true → IsUnnamedValue before page cell
   unnamed old there value = record {
     old = old;
@@ -71,7 +71,7 @@ module _ (shape : Shape) (file : View) (past : History) (owner page cell : ℕ) 
     unnamed = (clears-unnamed at is.whole.order owner page cell is.sees.guard before origin is.sees.sees).unnamed;
   }
 
-  -- the view has a data page there
+  -- The view has a data page there.
   pub clear-in : IsClearIn shape before page cell content
   clear-in = go (before page) refl is.sees.fits where
     go : (found : Option Page) → before page ≡ found → Fits shape (ClearCell cell) found content → IsClearIn shape before page cell content
@@ -79,7 +79,7 @@ module _ (shape : Shape) (file : View) (past : History) (owner page cell : ℕ) 
     go None stands fits = absurd fits
     go (Some _) stands fits = cc
 
-  -- what is read with the cleared cell is meant: a clearing is no command
+  -- What is read with the cleared cell is meant: a clearing is no command.
   pub clears-read : ReadsAs (meaning_with living (with_page before page content)) (beside shape file past owner page (ClearCell cell) content cut living is) → EditIsMeant shape file past owner page (ClearCell cell) content cut living
   clears-read reads =
       subst (ReadsAs (meaning_with living (with_page before page content)))

@@ -19,8 +19,8 @@ use Rattle.fbc_meanings.specs.Beside.{IsApart}
 use Rattle.fbc_numbers.proofs.CutFacts.{clash, never-committed}
 use Rattle.fbc_numbers.proofs.DeadMarks.{begun-seen}
 use Rattle.fbc_numbers.proofs.NamedTips.{commit-named, tip_seen}
-use Rattle.fbc_rows.specs.Forms.{IsAdmittedEdit}
-use Rattle.fbc_rows.specs.Open.{AreOpen}
+use Rattle.fbc_version_edits.specs.Forms.{IsAdmittedEdit}
+use Rattle.fbc_version_edits.specs.Open.{AreOpen}
 use Rattle.fbc_runs.specs.Ended.{is_owner_of, settled_by}
 use Rattle.fbc_runs.specs.Orderly.{IsInFront, IsOrderly, OwnersDiffer}
 use Rattle.fbc_runs.specs.Reading.{ReadsAs}
@@ -28,8 +28,8 @@ use Rattle.fbc_runs.proofs.Ends.{commit_same, other_commits_same}
 use Rattle.fbc_runs.proofs.Endings.{settled_by_orderly}
 use Rattle.fbc_runs.proofs.InFrontOfOpens.{own_in_front}
 use Rattle.fbc_runs.proofs.Numbers.{first_in, later_in}
-use Rattle.fbc_views.specs.Allowed.{Fits}
-use Rattle.fbc_views.specs.Edited.{with_page}
+use Rattle.fbc_page_edits.specs.Allowed.{Fits}
+use Rattle.fbc_page_edits.specs.Edited.{with_page}
 use Rattle.fbc_world.specs.History.{History}
 use Rattle.fbc_world.specs.Holdings.{is_draft_of}
 use Rattle.fbc_world.specs.World.{World, is_number_of, world_of}
@@ -55,7 +55,7 @@ module _ (shape : Shape) (file : View) (past : History) (owner page number : ℕ
   abbrev m : Machine
   m = machine_of shape file past
 
-  -- the owner's open transaction, which is marked
+  -- The owner's open transaction, which is marked.
   abbrev pub marked : Transaction
   marked = is.sees.guard.row.0
 
@@ -86,7 +86,7 @@ module _ (shape : Shape) (file : View) (past : History) (owner page number : ℕ
     allowed = record { begun = begun-seen at owner page number Committed is.sees.guard seen _ is.sees.sees; stays = inl refl };
   }
 
-  -- where the owner is living, it is so with the marked transaction
+  -- Where the owner is living, it is so with the marked transaction.
   module _ (yes : is_owner_of living owner ≡ true) where
     found : HasLiving living owner
     found = has_living living owner yes
@@ -103,7 +103,7 @@ module _ (shape : Shape) (file : View) (past : History) (owner page number : ℕ
         (other_commits_same living (commits_in w cut) also (λ other ends. sym (apart_same other (λ same. clash (is_owner_of living owner) yes (subst (λ o. is_owner_of living o ≡ false) same ends)))) m)
         reads
 
-  -- where it is not, its transaction is open beside the cut too
+  -- Where it is not, its transaction is open beside the cut too.
   module _ (gone : is_owner_of living owner ≡ false) where
     in_cut : (p : ℕ) → is_draft_of marked.owner (w.draft p) ≡ true → cut p ≡ true
     in_cut p own =

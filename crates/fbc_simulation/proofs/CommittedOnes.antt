@@ -10,9 +10,9 @@ use Rattle.fbc_kinds.specs.Meaning.{meaning_with, transaction_of, transactions_u
 use Rattle.fbc_kinds.specs.Sound.{IsSound}
 use Rattle.fbc_kinds.specs.View.{View, is_committed_state, next_of}
 use Rattle.fbc_kinds.proofs.Meanings.{number_of-transaction_of}
-use Rattle.fbc_views.proofs.NextMeaning.{not_committed}
-use Rattle.fbc_rows.specs.Open.{IsClosed}
-use Rattle.fbc_rows.proofs.Living.{IsWho, committed_held, who_is}
+use Rattle.fbc_page_edits.proofs.NextMeaning.{not_committed}
+use Rattle.fbc_version_edits.specs.Open.{IsClosed}
+use Rattle.fbc_version_edits.proofs.Living.{IsWho, committed_held, who_is}
 use Rattle.fbc_runs.specs.Ended.{end_by, ended_by, is_owner_of}
 use Rattle.fbc_runs.proofs.CommittedNumbers.{committed_at}
 use Rattle.fbc_runs.proofs.EndedOnes.{closed_stays, living_stays, other_ends}
@@ -21,18 +21,13 @@ use Rattle.fbc_meanings.proofs.Places.{one_at}
 use Rattle.fbc_numbers.specs.Numbers.{is_committed_in}
 use Rattle.fbc_numbers.proofs.CutFacts.{clash}
 
-pub both_ways : (x y : Bool) → (x ≡ true → y ≡ true) → (y ≡ true → x ≡ true) → x ≡ y
-both_ways true y there back = sym (there refl)
-both_ways false true there back = back refl
-both_ways false false there back = refl
-
 -- A number above 0 that no open transaction has is committed in the view.
 pub record IsCommittedNumber (view : View) (living : List Transaction) (number : ℕ) : Type 0 where
   pub above : 0 < number
   pub committed : is_committed_in view number ≡ true
   pub closed : IsClosed living number
 
--- what is committed was begun
+-- What is committed was begun.
 pub committed_begun : (view : View) (number : ℕ) → IsSound view → is_committed_in view number ≡ true → number < next_of view
 committed_begun view number sound is = elim (cases_lt number (next_of view)) [
   | inl below ↦ below
@@ -67,7 +62,7 @@ module _ (view : View) (living : List Transaction) (sound : IsSound view) (opene
       let below = committed_begun view number sound is.committed in
       committed_held view living number is.above (grind (arith, below)) is.closed is.committed
 
--- without commits the ends commit nothing
+-- Without commits the ends commit nothing.
 module _ (living : List Transaction) (commits : ℕ → Bool) (none : (owner : ℕ) → commits owner ≡ false) where
   abbrev passes : Transaction → Bool
   passes t = is_committed t.standing

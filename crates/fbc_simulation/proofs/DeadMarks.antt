@@ -11,12 +11,12 @@ use Rattle.fbc_kinds.specs.Machine.{Machine, after_end}
 use Rattle.fbc_kinds.specs.Meaning.{meaning_with}
 use Rattle.fbc_kinds.specs.View.{View}
 use Rattle.fbc_numbers.proofs.DeadMarks.{allows-dead}
-use Rattle.fbc_rows.specs.Forms.{IsAdmittedEdit}
+use Rattle.fbc_version_edits.specs.Forms.{IsAdmittedEdit}
 use Rattle.fbc_runs.specs.Ended.{end_by, is_owner_of, settled_by}
 use Rattle.fbc_runs.specs.Reading.{ReadsAs}
 use Rattle.fbc_runs.specs.Runs.{machine_after}
 use Rattle.fbc_runs.proofs.Ends.{ends_same}
-use Rattle.fbc_views.specs.Edited.{with_page}
+use Rattle.fbc_page_edits.specs.Edited.{with_page}
 use Rattle.fbc_world.specs.Commands.{where_true}
 use Rattle.fbc_world.specs.History.{History}
 use Rattle.fbc_world.specs.World.{World, is_number_of, world_of}
@@ -39,7 +39,7 @@ module _ (shape : Shape) (file : View) (past : History) (owner page number : ℕ
   abbrev m : Machine
   m = machine_of shape file past
 
-  -- the view allows the mark
+  -- The view allows the mark.
   pub dead_admitted : IsAdmittedEdit shape seen page (Mark number Dead) content
   dead_admitted = record {
     of_shape = is.sees.of_shape;
@@ -55,7 +55,7 @@ module _ (shape : Shape) (file : View) (past : History) (owner page number : ℕ
       let gone : None ≡ Some t = sym (ap (λ b. if b then None else Some t) key) ∙ stays in
       cc
 
-  -- whose own number is marked goes on no more
+  -- Whose own number is marked goes on no more.
   not_living : is_number_of number (w.transaction owner) ≡ true → is_owner_of living owner ≡ false
   not_living its = none_living living owner (λ t lives own. goes_on (w.transaction owner) its t (of_owner w t owner (is.opens.each t lives) own) (is.goes_on t lives own))
 
@@ -69,6 +69,6 @@ module _ (shape : Shape) (file : View) (past : History) (owner page number : ℕ
       (ends_same living owner (not_living its) (commits_in w cut) also (λ other apart. other_value false (commits_in w cut) owner other apart) m)
   dead_ends false its = sym (same_commits shape file past owner page (Mark number Dead) content cut living is)
 
-  -- so it is meant where it is not read
+  -- So it is meant where it is not read.
   pub dead_meant : ReadsAs (meaning_with living (with_page seen page content)) (settled_by living (commits_in w cut) m) → EditIsMeant shape file past owner page (Mark number Dead) content cut living
   dead_meant reads = subst (ReadsAs (meaning_with living (with_page seen page content))) (sym (dead_ends (is_number_of number (w.transaction owner)) refl)) reads

@@ -15,7 +15,7 @@ use Rattle.fbc_closed_cuts.proofs.WriteViews.{draft_there}
 use Rattle.fbc_simulation.specs.Beside.{commits_in}
 use Rattle.fbc_simulation.specs.EditIn.{is_commit}
 
--- the mark of an owner that had none, after its edit
+-- The mark of an owner that had none, after its edit.
 mark_made : (page : ℕ) (cut : Cut) (e : Edit) (t : Option Transaction) → option_map_or cut (mark_after_edit page e t None) false ≡ (is_commit e t && cut page)
 mark_made page cut (edit.Mark number Committed) t = go (is_number_of number t) where
   go : (b : Bool) → option_map_or cut (if b then Some page else None) false ≡ (b && cut page)
@@ -43,7 +43,7 @@ module _ (w : World) (m : MarksAreDrafted w) (owner page : ℕ) (e : Edit) (cont
   abbrev made : World
   made = with_edit w owner page e (Some content)
 
-  -- a mark stands in a draft
+  -- A mark stands in a draft.
   drafted_mark : (o : ℕ) (mark : Option ℕ) → IsMarkDrafted w o mark → option_map_or cut mark false ≡ option_map_or (drafted_in w cut) mark false
   drafted_mark o None held = refl
   drafted_mark o (Some p) held = rw (draft_there o (w.draft p) held.0) (and_true (cut p))

@@ -2,6 +2,7 @@
 use Rattle.std.proofs.Common.{◌≡◌, ◌∙◌, ℕ, Bool, true, false, ◌==◌, ◌&&◌, if◌then◌else◌, ◌∷◌, List, Option, Some, None, is_some, refl, sym, ap, subst}
 use Rattle.std.specs.Prelude.{Contains}
 use Rattle.std.proofs.Math.Path.{fun_ext}
+use Rattle.std.proofs.lemmas.Bool.{and_right}
 use Rattle.fbc_kinds.specs.declared.commands.Command.{Command}
 use Rattle.fbc_kinds.specs.declared.edits.Edit.{Edit}
 use Rattle.fbc_kinds.specs.declared.pages.Page.{Page}
@@ -17,7 +18,7 @@ use Rattle.fbc_runs.specs.Reading.{ReadsAs}
 use Rattle.fbc_runs.specs.Runs.{MayAllCome, machine_after}
 use Rattle.fbc_runs.proofs.Ends.{other_commits_same}
 use Rattle.fbc_runs.proofs.Steps.{run_orderly}
-use Rattle.fbc_views.specs.Edited.{with_page}
+use Rattle.fbc_page_edits.specs.Edited.{with_page}
 use Rattle.fbc_world.specs.Commands.{commands_at, commands_of, where_true}
 use Rattle.fbc_world.specs.declared.events.Act.TheVariants.{Local}
 use Rattle.fbc_world.specs.declared.events.LocalEvent.TheVariants as local
@@ -45,18 +46,11 @@ use Rattle.fbc_simulation.proofs.EditOpens.{edited-alike, own_goes_on, was_open}
 use Rattle.fbc_simulation.proofs.EditUnread.{edit_unread}
 use Rattle.fbc_simulation.proofs.LivingOwners.{none_living}
 use Rattle.fbc_simulation.proofs.RunsLonger.{machine_after-append, may_all_come-append}
-
-and_false : (b : Bool) → (b && false) ≡ false
-and_false true = refl
-and_false false = refl
+use Rattle.fbc_numbers.proofs.CutFacts.{clash}
 
 and_true : (b : Bool) → (b && true) ≡ b
 and_true true = refl
 and_true false = refl
-
-true_is_not_false : (b : Bool) → b ≡ true → b ≡ false → ⊥
-true_is_not_false true is isnt = cc
-true_is_not_false false is isnt = cc
 
 module _ (shape : Shape) (file : View) (before : History) (owner page : ℕ) (e : Edit) (landed : Bool) (legal : IsLegal shape file (happens owner (Local (local.Edit page e)) landed ∷ before))
     (whole : IsWhole (scene_of shape file before)) (simulated : IsSimulated (scene_of shape file before)) (content : Page) (is : page_after shape (world_of shape file before) owner page e ≡ Some content)
@@ -116,7 +110,7 @@ module _ (shape : Shape) (file : View) (before : History) (owner page : ℕ) (e 
     abbrev earlier : Cut
     earlier = drafted_in w cut
 
-    -- what reads as the machine after the commands, with the same commits
+    -- What reads as the machine after the commands, with the same commits.
     read_after : (seen : View) (commits : ℕ → Bool) → seen ≡ view after cut → ((o : ℕ) → commits_in after cut o ≡ commits o)
         → ReadsAs (meaning_with living seen) (settled_by living commits (machine_after m commands)) → ReadsAs (meaning_with living (view after cut)) (settled_by living (commits_in after cut) later)
     read_after seen commits one same reads =
@@ -133,7 +127,7 @@ module _ (shape : Shape) (file : View) (before : History) (owner page : ℕ) (e 
     each_before : (t : Transaction) → Contains living t → w.transaction t.owner ≡ Some t
     each_before t lives = was_open w owner page e content t.owner t (made_open t lives)
 
-    -- a draft of another page was there before
+    -- A draft of another page was there before.
     other_draft : (t : Transaction) (p : ℕ) → Contains living t → is_draft_of t.owner (w.draft p) ≡ true → p == page ≡ false → cut p ≡ true
     other_draft t p lives own apart = opens.drafts t p lives (subst (λ (v : World). is_draft_of t.owner (v.draft p) ≡ true) (sym moved) (rw apart own))
 
@@ -178,17 +172,17 @@ module _ (shape : Shape) (file : View) (before : History) (owner page : ℕ) (e 
       spared : IsSameView w (stamps_of shape file before) after (stamps_of shape file (edits ∷ before)) cut earlier
       spared = edit-spares shape file before owner page e landed content cut is closed out
 
-      -- the editor is not living: its draft is out of the cut
+      -- The editor is not living: its draft is out of the cut.
       apart : (t : Transaction) → Contains living t → ¬ (t.owner ≡ owner)
       apart t lives same =
-          true_is_not_false (cut page)
+          clash (cut page)
           (opens.drafts t page lives (subst (λ (v : World). is_draft_of t.owner (v.draft page) ≡ true) (sym moved) (rw (test_of_same page page refl) (test_of_same owner t.owner (sym same)))))
           out
 
       gone : is_owner_of living owner ≡ false
       gone = none_living living owner apart
 
-      -- no other owner has a draft of the page
+      -- No other owner has a draft of the page.
       others_before : (t : Transaction) (p : ℕ) → Contains living t → is_draft_of t.owner (w.draft p) ≡ true → earlier p ≡ true
       others_before t p lives own = in_both p (go (p == page) refl) (draft_there t.owner (w.draft p) own) where
         go : (b : Bool) → p == page ≡ b → cut p ≡ true
@@ -203,7 +197,7 @@ module _ (shape : Shape) (file : View) (before : History) (owner page : ℕ) (e 
       same_before : (o : ℕ) → commits_in after cut o ≡ commits_in w earlier o
       same_before o = commits_are o ∙ go (o == owner) refl where
         go : (b : Bool) → o == owner ≡ b → (if b then (is_commit e (w.transaction owner) && cut page) else commits_in w earlier o) ≡ commits_in w earlier o
-        go true same = ap (λ b. is_commit e (w.transaction owner) && b) out ∙ and_false (is_commit e (w.transaction owner)) ∙ sym (ap (commits_in w earlier) (same_from_test o owner same) ∙ none)
+        go true same = ap (λ b. is_commit e (w.transaction owner) && b) out ∙ and_right (is_commit e (w.transaction owner)) false refl ∙ sym (ap (commits_in w earlier) (same_from_test o owner same) ∙ none)
         go false other = refl
 
       meant_without : ReadsAs (meaning_with living (view after cut)) (settled_by living (commits_in after cut) later)

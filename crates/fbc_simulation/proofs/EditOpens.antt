@@ -18,8 +18,9 @@ use Rattle.fbc_runs.specs.Runs.{machine_after}
 use Rattle.fbc_world.specs.Commands.{change_of, change_on, edit_command, where_true}
 use Rattle.fbc_world.specs.World.{World, is_number_of, transaction_after_edit, with_edit}
 use Rattle.fbc_simulation.proofs.ActOpens.{OpensAlike, died-alike}
+use Rattle.fbc_numbers.proofs.Opens.{left_open}
 
--- a change of a row leaves the transactions
+-- A change of a row leaves the transactions.
 module _ (machine : Machine) (who : ℕ) where
   version_leaves : (relation row : ℕ) (value : Option (List ℕ)) (place : Option ℕ) → (with_version machine place relation row value).transactions ≡ machine.transactions
   version_leaves relation row value None = refl
@@ -52,11 +53,11 @@ either_way true x = refl
 either_way false x = refl
 
 module _ (w : World) (machine : Machine) (alike : OpensAlike w machine) (shape : Shape) (owner page : ℕ) (content before : Option Page) where
-  -- where the transactions of both are as before
+  -- Where the transactions of both are as before.
   left_alike : (later : Machine) → later.transactions ≡ machine.transactions → (o : ℕ) → IsSameOpen (if (o == owner) && true then w.transaction o else w.transaction o) (open_transaction later o)
   left_alike later same o = rw (either_way (o == owner) (w.transaction o), same) (alike o)
 
-  -- the owner's own number is marked dead, or another
+  -- The owner's own number is marked dead, or another.
   dead_alike : (number : ℕ) (b : Bool) → is_number_of number (w.transaction owner) ≡ b → (o : ℕ)
       → IsSameOpen (if (o == owner) && true then (if is_number_of number (w.transaction o) then None else w.transaction o) else w.transaction o)
       (open_transaction (machine_after machine (where_true b (command.Rollback owner ∷ []))) o)
@@ -83,20 +84,6 @@ module _ (w : World) (machine : Machine) (alike : OpensAlike w machine) (shape :
   edited-alike (edit.Mark number Committed) o = left_alike machine refl o
   edited-alike _ o = left_alike machine refl o
 
--- an edit begins no transaction
-still_open : (number : ℕ) (o : Option Transaction) (t : Transaction) → (if is_number_of number o then None else o) ≡ Some t → o ≡ Some t
-still_open number o t is = go (is_number_of number o) is where
-  go : (b : Bool) → (if b then None else o) ≡ Some t → o ≡ Some t
-  go true is = absurd cc
-  go false is = is
-
-after_was : (e : Edit) (o : Option Transaction) (t : Transaction) → transaction_after_edit e o ≡ Some t → o ≡ Some t
-after_was (edit.Mark number Dead) o t is = still_open number o t is
-after_was (edit.Mark number Active) o t is = is
-after_was (edit.Mark number Limbo) o t is = is
-after_was (edit.Mark number Committed) o t is = is
-after_was _ o t is = is
-
 module _ (w : World) (owner page : ℕ) (e : Edit) (content : Page) where
   abbrev pub made : World
   made = with_edit w owner page e (Some content)
@@ -104,12 +91,12 @@ module _ (w : World) (owner page : ℕ) (e : Edit) (content : Page) where
   pub was_open : (o : ℕ) (t : Transaction) → made.transaction o ≡ Some t → w.transaction o ≡ Some t
   was_open o t is = go (o == owner) is where
     go : (b : Bool) → (if b && true then transaction_after_edit e (w.transaction o) else w.transaction o) ≡ Some t → w.transaction o ≡ Some t
-    go true is = after_was e (w.transaction o) t is
+    go true is = left_open e (w.transaction o) t is
     go false is = is
 
-  -- and the editor's own goes on
+  -- And the editor's own goes on.
   pub own_goes_on : (o : ℕ) (t : Transaction) → made.transaction o ≡ Some t → o ≡ owner → transaction_after_edit e (Some t) ≡ Some t
   own_goes_on o t is same = go (o == owner) refl is where
     go : (b : Bool) → o == owner ≡ b → (if b && true then transaction_after_edit e (w.transaction o) else w.transaction o) ≡ Some t → transaction_after_edit e (Some t) ≡ Some t
-    go true here is = subst (λ p. transaction_after_edit e p ≡ Some t) (after_was e (w.transaction o) t is) is
+    go true here is = subst (λ p. transaction_after_edit e p ≡ Some t) (left_open e (w.transaction o) t is) is
     go false apart is = absurd (differ_from_test o owner apart same)

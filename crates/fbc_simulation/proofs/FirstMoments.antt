@@ -8,15 +8,15 @@ use Rattle.fbc_kinds.specs.Machine.{open_transaction}
 use Rattle.fbc_kinds.specs.Meaning.{IsSameOpen, meaning_of, meaning_with}
 use Rattle.fbc_kinds.specs.Sound.{IsSound}
 use Rattle.fbc_kinds.specs.View.{View, next_of}
-use Rattle.fbc_rows.proofs.ChainNumbers.{chain_begun}
-use Rattle.fbc_rows.proofs.Living.{found_lives}
+use Rattle.fbc_version_edits.proofs.ChainNumbers.{chain_begun}
+use Rattle.fbc_version_edits.proofs.Living.{found_lives}
 use Rattle.fbc_runs.specs.Ended.{settled_by}
 use Rattle.fbc_runs.specs.Reading.{ReadsAs}
 use Rattle.fbc_runs.proofs.FileEnds.{file_ends}
 use Rattle.fbc_runs.proofs.FileMachines.{file_orderly}
 use Rattle.fbc_runs.proofs.Places.{at_head}
 use Rattle.fbc_runs.proofs.RowReads.{reads_itself}
-use Rattle.fbc_views.specs.Edited.{IsOfShape}
+use Rattle.fbc_page_edits.specs.Edited.{IsOfShape}
 use Rattle.fbc_world.specs.World.{World, world_of}
 use Rattle.fbc_legal.specs.Scene.{scene_of}
 use Rattle.fbc_closed_cuts.specs.Cut.{Cut, view}
@@ -27,7 +27,7 @@ module _ (shape : Shape) (file : View) where
   abbrev w : World
   w = world_of shape file []
 
-  -- nobody has an open transaction in the file
+  -- Nobody has an open transaction in the file.
   none_found : (who : ℕ) (found : Option Transaction) → open_transaction (meaning_of file) who ≡ found → IsSameOpen None found
   none_found who None is = tt
   none_found who (Some t) is = absurd (grind (arith, (found_lives file [] (next_of file) who t is).1))

@@ -7,11 +7,11 @@ use Rattle.fbc_kinds.proofs.Tests.{same_from_test, test_of_different, test_of_sa
 use Rattle.fbc_runs.specs.Ended.{is_owner_of}
 use Rattle.fbc_runs.proofs.Numbers.{first_in, first_or_later, later_in}
 
--- what each element has, all have
+-- What each element has, all have.
 pub all_of : {X : Type 0} (P : X → Type 0) (xs : List X) → ((x : X) → Contains xs x → P x) → All P xs
 all_of P xs each = All-weaker (Contains xs) P each xs (All-contains_itself xs)
 
--- a living transaction of an owner
+-- A living transaction of an owner.
 pub record HasLiving (living : List Transaction) (who : ℕ) : Type 0 where
   pub t : Transaction
   pub lives : Contains living t
@@ -24,7 +24,7 @@ has_living (t ∷ living) who is = go (t.owner == who) refl is (has_living livin
   go true same found later = record { t = t; lives = first_in t living; own = same_from_test t.owner who same }
   go false other found later = let rest = later found in record { t = rest.t; lives = later_in t living rest.t rest.lives; own = rest.own }
 
--- whoever has none is no owner of them
+-- Whoever has none is no owner of them.
 pub none_living : (living : List Transaction) (who : ℕ) → ((t : Transaction) → Contains living t → ¬ (t.owner ≡ who)) → is_owner_of living who ≡ false
 none_living [] who none = refl
 none_living (t ∷ living) who none =
@@ -40,14 +40,14 @@ lives_of (first ∷ living) t lives = go (first_or_later first living t lives) (
     any_later true is = refl
     any_later false is = is
 
--- an owner's value among those of all
+-- An owner's value among those of all.
 pub own_value : (own : Bool) (others : ℕ → Bool) (owner other : ℕ) → other ≡ owner → (if other == owner then own else others other) ≡ own
 own_value own others owner other same = rw (test_of_same other owner same) refl
 
 pub other_value : (own : Bool) (others : ℕ → Bool) (owner other : ℕ) → ¬ (other ≡ owner) → (if other == owner then own else others other) ≡ others other
 other_value own others owner other apart = rw (test_of_different other owner apart) refl
 
--- an owner's own value is as good as any that it has
+-- An owner's own value is as good as any that it has.
 pub same_value : (own : Bool) (others : ℕ → Bool) (owner : ℕ) → others owner ≡ own → (other : ℕ) → others other ≡ (if other == owner then own else others other)
 same_value own others owner is other = go (other == owner) refl where
   go : (b : Bool) → (other == owner) ≡ b → others other ≡ (if b then own else others other)

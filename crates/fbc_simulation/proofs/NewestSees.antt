@@ -7,7 +7,7 @@ use Rattle.fbc_kinds.specs.declared.pages.Page.{Page}
 use Rattle.fbc_kinds.specs.declared.shapes.Shape.{Shape}
 use Rattle.fbc_kinds.specs.declared.snapshots.Transaction.{Transaction}
 use Rattle.fbc_kinds.specs.View.{View}
-use Rattle.fbc_views.specs.Allowed.{Fits}
+use Rattle.fbc_page_edits.specs.Allowed.{Fits}
 use Rattle.fbc_world.specs.History.{History}
 use Rattle.fbc_world.specs.World.{World, page_after, world_of}
 use Rattle.fbc_legal.specs.Guards.{GuardOfEdit}
@@ -40,7 +40,7 @@ module _ (shape : Shape) (file : View) (past : History) (whole : IsWhole (scene_
   abbrev pub newest_origin : ℕ → Stamps
   newest_origin = view_stamps w at.stamps (all_drafts w)
 
-  -- every page is the newest
+  -- Every page is the newest.
   stamps_are : (other : ℕ) → newest_origin other ≡ newest_stamps w at.stamps other
   stamps_are other = go (is_some (w.draft other)) (at.stamps.draft other) (at.stamps.kept other) where
     go : (b : Bool) (x y : Stamps) → (if b then (if b then x else y) else y) ≡ (if b then x else y)
@@ -50,7 +50,7 @@ module _ (shape : Shape) (file : View) (past : History) (whole : IsWhole (scene_
   shows : (other : ℕ) → IsSeenNewest at other (newest_seen other) (newest_origin other)
   shows other = record { page = ap (λ (v : View). v other) (all-view w); stamps = stamps_are other }
 
-  -- a cut with every page
+  -- A cut with every page.
   takes_all : TakesBefore at owner page (λ other. true)
   takes_all = record { edited_in = refl; before_in = λ other own path. refl }
 
@@ -76,7 +76,7 @@ module _ (shape : Shape) (file : View) (past : History) (whole : IsWhole (scene_
       sound = whole.order.upheld.sound (all_drafts w) (all-closed w);
     }
 
--- a version that is put
+-- A version that is put.
 pub newest-put-in : (shape : Shape) (file : View) (past : History) (owner page cell : ℕ) (new : Cell) (made : Page) (living : List Transaction) → AreOpenIn (world_of shape file past) (all_drafts (world_of shape file past)) living → IsWhole (scene_of shape file past) → IsSimulated (scene_of shape file past)
     → GuardOfEdit (scene_of shape file past) owner page (PutCell cell new) → page_after shape (world_of shape file past) owner page (PutCell cell new) ≡ Some made
     → IsEditIn shape file past owner page (PutCell cell new) made (all_drafts (world_of shape file past)) living

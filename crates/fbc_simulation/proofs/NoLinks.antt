@@ -11,7 +11,7 @@ use Rattle.fbc_kinds.specs.declared.shapes.Shape.{Shape}
 use Rattle.fbc_kinds.specs.DataSpelling.{IsCell, IsContent}
 use Rattle.fbc_kinds.specs.Edits.{IsWithinLimits, value_length}
 use Rattle.fbc_kinds.specs.View.{View, cell_at, cell_in, is_back}
-use Rattle.fbc_views.specs.Edited.{IsOfShape}
+use Rattle.fbc_page_edits.specs.Edited.{IsOfShape}
 
 by_flag : (f : Flag) (greatest : ℕ) (version : Cell) → is_back f ≡ true → IsContent f greatest version → version.back_page ≡ 0 → version.back_cell ≡ 0
 by_flag flag.Back greatest version back content none = content.0.back none

@@ -4,7 +4,7 @@ use Rattle.std.specs.Prelude.{Contains}
 use Rattle.std.proofs.lemmas.Option.{same_Some}
 use Rattle.fbc_kinds.specs.declared.snapshots.Transaction.{Transaction}
 use Rattle.fbc_kinds.proofs.Tests.{differ_from_test, same_from_test}
-use Rattle.fbc_rows.specs.Open.{AreOpen}
+use Rattle.fbc_version_edits.specs.Open.{AreOpen}
 use Rattle.fbc_runs.proofs.Numbers.{first_or_later}
 use Rattle.fbc_world.specs.Holdings.{is_draft_of}
 use Rattle.fbc_world.specs.World.{World}
@@ -13,14 +13,14 @@ use Rattle.fbc_numbers.specs.Numbers.{NumbersDiffer, OpenNumbersStand}
 use Rattle.fbc_simulation.specs.Beside.{AreOpenIn}
 
 module _ (w : World) where
-  -- the open transaction of an owner is one
+  -- The open transaction of an owner is one.
   pub one_of_owner : (t u : Transaction) → w.transaction t.owner ≡ Some t → w.transaction u.owner ≡ Some u → t.owner ≡ u.owner → t ≡ u
   one_of_owner t u is was same = same_Some t u (sym is ∙ ap w.transaction same ∙ was)
 
   pub of_owner : (t : Transaction) (owner : ℕ) → w.transaction t.owner ≡ Some t → t.owner ≡ owner → w.transaction owner ≡ Some t
   of_owner t owner is same = subst (λ o. w.transaction o ≡ Some t) same is
 
-  -- and of one number there is one
+  -- And of one number there is one.
   pub one_of_number : NumbersDiffer w → (t u : Transaction) → w.transaction t.owner ≡ Some t → w.transaction u.owner ≡ Some u → t.number ≡ u.number → t ≡ u
   one_of_number differ t u is was same = go (t.owner == u.owner) refl where
     go : (b : Bool) → (t.owner == u.owner) ≡ b → t ≡ u
@@ -34,7 +34,7 @@ module _ (w : World) where
     one_owner = λ t u lives also same. one_of_owner t u (opens.each t lives) (opens.each u also) same;
   }
 
-  -- one more transaction, with all drafts of its owner
+  -- One more transaction, with all drafts of its owner.
   pub one_more_open : (cut : Cut) (t : Transaction) (living : List Transaction) → AreOpenIn w cut living → w.transaction t.owner ≡ Some t
       → ((page : ℕ) → is_draft_of t.owner (w.draft page) ≡ true → cut page ≡ true) → AreOpenIn w cut (t ∷ living)
   one_more_open cut t living opens is drafts = record {

@@ -33,7 +33,7 @@ left_out gone other (o ∷ owners) apart at = go (o == gone) refl (first_or_late
   go false is (inr at) later = later_in o (all_but gone owners) other (later at)
 
 module _ (shape : Shape) (w : World) (owners : List ℕ) (owner other : ℕ) (listed : w.is_alive other ≡ true → Contains owners other) where
-  -- who is alive after a death was so before, and is another one
+  -- Who is alive after a death was so before, and is another one.
   after_death : (b : Bool) → (other == owner) ≡ b → (if b then false else w.is_alive other) ≡ true → Contains (all_but owner owners) other
   after_death true is alive = absurd cc
   after_death false is alive = left_out owner other owners (differ_from_test other owner is) (listed alive)
@@ -60,7 +60,7 @@ alive-listed shape file [] other alive = absurd cc
 alive-listed shape file (moment ∷ before) other alive =
     listed-acted shape (world_of shape file before) (living before) moment.event.actor other (alive-listed shape file before other) moment.event.act moment.landed alive
 
--- what is found of the listed ones
+-- What is found of the listed ones.
 module _ {X Y : Type 0} (find : X → Option Y) where
   pub found-listed : (xs : List X) (x : X) (y : Y) → Contains xs x → find x ≡ Some y → Contains (filter_map find xs) y
   found-listed [] x y at is = absurd (omega (arith, at.1))

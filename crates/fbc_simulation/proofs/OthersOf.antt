@@ -4,10 +4,10 @@ use Rattle.fbc_kinds.specs.declared.snapshots.Transaction.{Transaction}
 use Rattle.fbc_kinds.specs.Machine.{Machine, is_open, is_open_of, open_transaction}
 use Rattle.fbc_kinds.proofs.Tests.{differ_from_test, same_from_test, test_of_same}
 use Rattle.fbc_runs.specs.Ended.{end_by, ended_by, is_owner_of, settled_by}
+use Rattle.fbc_runs.proofs.CommittedOnes.{both_ways}
 use Rattle.fbc_runs.proofs.EndedOnes.{closed_stays, with_same}
 use Rattle.fbc_runs.proofs.Places.{at_head, head_or_tail, in_tail}
 use Rattle.fbc_numbers.proofs.CutFacts.{clash}
-use Rattle.fbc_simulation.proofs.CommittedOnes.{both_ways}
 use Rattle.fbc_simulation.proofs.LivingOwners.{has_living, lives_of}
 
 abbrev pub others_of : ℕ → List Transaction → List Transaction
@@ -76,6 +76,6 @@ module _ (who : ℕ) where
         go true is found rest = cc
         go false is found rest = let here = one_same t is in let behind = rest found in λ i. here i ∷ behind i
 
-      -- who has no open transaction ends none
+      -- Who has no open transaction ends none.
       pub ends_of_others : (m : Machine) → open_transaction m who ≡ None → settled_by (others_of who living) commits m ≡ settled_by living commits m
       ends_of_others m none = with_same m _ _ (all_same m.transactions none)

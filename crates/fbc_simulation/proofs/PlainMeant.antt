@@ -15,15 +15,15 @@ use Rattle.fbc_numbers.proofs.BeginFacts.{open-within}
 use Rattle.fbc_runs.specs.Ended.{settled_by}
 use Rattle.fbc_runs.specs.Reading.{ReadsAs}
 use Rattle.fbc_runs.proofs.Ends.{other_commits_same}
-use Rattle.fbc_views.specs.Edited.{with_page}
+use Rattle.fbc_page_edits.specs.Edited.{with_page}
 use Rattle.fbc_world.specs.History.{History}
 use Rattle.fbc_world.specs.World.{World, world_of}
 use Rattle.fbc_legal.specs.Scene.{scene_of}
 use Rattle.fbc_closed_cuts.specs.Cut.{Cut, view}
-use Rattle.fbc_keeping.specs.Seen.{IsKept}
-use Rattle.fbc_keeping.proofs.HeaderEdits.{inventory_kept, pointer_kept, tip_kept}
-use Rattle.fbc_keeping.proofs.NextNumbers.{next_kept}
-use Rattle.fbc_keeping.proofs.PageEdits.{format_kept, free_kept, name_kept, take_kept, unname_kept}
+use Rattle.fbc_soundness.specs.Seen.{IsKept}
+use Rattle.fbc_soundness.proofs.HeaderEdits.{inventory_kept, pointer_kept, tip_kept}
+use Rattle.fbc_soundness.proofs.NextNumbers.{next_kept}
+use Rattle.fbc_soundness.proofs.PageEdits.{format_kept, free_kept, name_kept, take_kept, unname_kept}
 use Rattle.fbc_simulation.specs.Beside.{commits_in, machine_of}
 use Rattle.fbc_simulation.specs.EditIn.{EditIsMeant, IsEditIn}
 use Rattle.fbc_simulation.specs.Plain.{is_plain}
@@ -40,21 +40,21 @@ module _ (shape : Shape) (file : View) (past : History) (owner page : ℕ) (e : 
   abbrev m : Machine
   m = machine_of shape file past
 
-  -- the view before the edit
+  -- The view before the edit.
   pub read_before : ReadsAs (meaning_with living seen) (settled_by living (commits_in w cut) m)
   read_before = is.simulated.meant cut living is.closed is.opens
 
-  -- each open number was given out there, or is the next one
+  -- Each open number was given out there, or is the next one.
   pub within : (t : Transaction) → Contains living t → t.number ≤ next_of seen
   within t lives =
       open-within (scene_of shape file past) is.whole.order.upheld t.owner is.whole.order.numbered t (is.opens.each t lives) cut
       (record { closed = is.closed; own = λ p own. is.opens.drafts t p lives own })
 
-  -- the owner has no commit before
+  -- The owner has no commit before.
   pub no_commit : commits_in w cut owner ≡ false
   no_commit = rw is.sees.guard.unmarked refl
 
-  -- commits that are no others than before
+  -- Commits that are no others than before.
   pub same_commits : settled_by living (commits_in w cut) m ≡ settled_by living (λ other. if other == owner then false else commits_in w cut other) m
   same_commits = other_commits_same living (commits_in w cut) _ (λ other ends. same_value false (commits_in w cut) owner no_commit other) m
 

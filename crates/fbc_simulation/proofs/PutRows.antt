@@ -17,10 +17,10 @@ use Rattle.fbc_kinds.specs.Limits.{cells, slots}
 use Rattle.fbc_kinds.specs.Reach.{DataRole, Reaches}
 use Rattle.fbc_kinds.specs.Sound.{IsSound}
 use Rattle.fbc_kinds.specs.View.{View, cell_at, cell_in, data_of, named_in, pointer_of, relation_of, size_of}
-use Rattle.fbc_views.specs.Edited.{IsOfShape}
-use Rattle.fbc_views.specs.Facing.{IsRowAt}
-use Rattle.fbc_views.proofs.HeaderStands.{size_is}
-use Rattle.fbc_views.proofs.ReachedRoles.{own_role}
+use Rattle.fbc_page_edits.specs.Edited.{IsOfShape}
+use Rattle.fbc_page_edits.specs.Facing.{IsRowAt}
+use Rattle.fbc_page_edits.proofs.HeaderStands.{size_is}
+use Rattle.fbc_page_edits.proofs.ReachedRoles.{own_role}
 use Rattle.fbc_world.specs.Commands.{row_of}
 use Rattle.fbc_origins.proofs.PutPages.{named-reached}
 
@@ -29,14 +29,14 @@ module _ (shape : Shape) (seen : View) (of_shape : IsOfShape shape seen) (sound 
   abbrev count : ℕ
   count = cells shape.size (value_length shape d.relation)
 
-  -- the cell is one of the page
+  -- The cell is one of the page.
   inside : cell < count
   inside =
       subst (λ n. cell < n) (of_shape.within page (kind.Data d) stands).count
       (slice_get_within d.cells cell old (ap (λ (o : Option Page). cell_in o cell) (sym stands) ∙ there))
 
   module _ (pointer : ℕ) (pointed : pointer_of seen d.relation (d.sequence / slots shape.size) ≡ Some pointer) where
-    -- the relation's pages have so many cells
+    -- The relation's pages have so many cells.
     pub count_is : cells_of seen d.relation ≡ count
     count_is = go (relation_of seen d.relation) refl pointed where
       go : (found : Option Relation) → relation_of seen d.relation ≡ found → option_and_then (λ (r : Relation). slice_get r.pointers (d.sequence / slots shape.size)) found ≡ Some pointer
@@ -54,7 +54,7 @@ module _ (shape : Shape) (seen : View) (of_shape : IsOfShape shape seen) (sound 
         place = ap (λ n. row_of shape d cell % n) count_is ∙ mod-mul-add d.sequence count cell inside;
       }
 
-      -- it is the only one there
+      -- It is the only one there.
       own_sequence : (relation sequence : ℕ) → Reaches seen (DataRole relation sequence) page → (relation ≡ d.relation) × (sequence ≡ d.sequence)
       own_sequence relation sequence reached =
           let role : DataRole relation sequence ≡ DataRole d.relation d.sequence = own_role seen sound page (kind.Data d) stands (DataRole relation sequence) reached in

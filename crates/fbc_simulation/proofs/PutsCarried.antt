@@ -13,7 +13,7 @@ use Rattle.fbc_kinds.specs.Machine.{Machine}
 use Rattle.fbc_kinds.specs.Meaning.{meaning_with}
 use Rattle.fbc_kinds.specs.View.{View, cell_at, is_empty, is_top}
 use Rattle.fbc_meanings.specs.Beside.{IsCarriedOut}
-use Rattle.fbc_views.specs.Edited.{with_page}
+use Rattle.fbc_page_edits.specs.Edited.{with_page}
 use Rattle.fbc_world.specs.Commands.{change_of, row_of}
 use Rattle.fbc_world.specs.History.{History}
 use Rattle.fbc_legal.specs.Rows.{HasOpen}
@@ -25,7 +25,7 @@ use Rattle.fbc_simulation.proofs.CellEdits.{beside}
 use Rattle.fbc_simulation.proofs.PutsIn.{before, p}
 use Rattle.fbc_simulation.proofs.PutsRead.{one-change}
 
--- a top is a value or a deletion
+-- A top is a value or a deletion.
 pub top-kinds : (f : Flag) → is_top f ≡ true → (f ≡ flag.Primary) ⊎ (f ≡ flag.Deletion)
 top-kinds flag.Primary top = inl refl
 top-kinds flag.Deletion top = inr refl

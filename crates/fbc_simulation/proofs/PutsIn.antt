@@ -15,9 +15,9 @@ use Rattle.fbc_kinds.proofs.Tests.{same_from_test}
 use Rattle.fbc_runs.specs.Ended.{settled_by}
 use Rattle.fbc_runs.specs.Reading.{ReadsAs}
 use Rattle.fbc_runs.specs.Runs.{machine_after}
-use Rattle.fbc_views.specs.Allowed.{Fits}
-use Rattle.fbc_views.specs.Edited.{with_page}
-use Rattle.fbc_rows.specs.Puts.{IsPutIn}
+use Rattle.fbc_page_edits.specs.Allowed.{Fits}
+use Rattle.fbc_page_edits.specs.Edited.{with_page}
+use Rattle.fbc_version_edits.specs.Puts.{IsPutIn}
 use Rattle.fbc_world.specs.Commands.{change_of, change_on, where_true}
 use Rattle.fbc_world.specs.History.{History}
 use Rattle.fbc_world.specs.World.{is_number_of}
@@ -30,7 +30,7 @@ use Rattle.fbc_simulation.specs.Beside.{commits_in}
 use Rattle.fbc_simulation.specs.EditIn.{EditIsMeant, IsEditIn, commands_made}
 use Rattle.fbc_simulation.proofs.CellEdits.{beside, machine, same-ends, seen}
 
--- no command, where the number is not the open one
+-- No command, where the number is not the open one.
 pub not-own : (number : ℕ) (open_one : Option Transaction) → ((t : Transaction) → open_one ≡ Some t → ¬ (t.number ≡ number)) → is_number_of number open_one ≡ false
 not-own number None apart = refl
 not-own number (Some t) apart = go (t.number == number) refl where
@@ -41,7 +41,7 @@ not-own number (Some t) apart = go (t.number == number) refl where
 pub no-command : (b : Bool) (commands : List Command) → b ≡ false → where_true b commands ≡ []
 no-command b commands is = rw is refl
 
--- nor where a back value is put
+-- Nor where a back value is put.
 back_of : (owner relation row : ℕ) (first : Bool) (f : Flag) (value : List ℕ) → f ≡ flag.Back → change_of owner relation row first f value ≡ []
 back_of owner relation row true flag.Back value is = refl
 back_of owner relation row false flag.Back value is = refl
@@ -72,7 +72,7 @@ module _ (shape : Shape) (file : View) (past : History) (owner page cell : ℕ) 
   pub data-page : before page ≡ Some (kind.Data p.data_page)
   data-page = is.sees.sees.edited_page.page ∙ p.stands
 
-  -- the view has a data page there
+  -- The view has a data page there.
   abbrev pub put-in : IsPutIn shape before page cell new content
   put-in = record {
     of_shape = is.sees.of_shape;
@@ -82,7 +82,7 @@ module _ (shape : Shape) (file : View) (past : History) (owner page cell : ℕ) 
     fits = subst (λ (found : Option Page). Fits shape (PutCell cell new) found content) data-page is.sees.fits;
   }
 
-  -- what is read with the version is meant, where it is no command
+  -- What is read with the version is meant, where it is no command.
   pub reads-meant : ReadsAs (meaning_with living (with_page before page content)) (beside shape file past owner page (PutCell cell new) content cut living is)
       → commands_made shape at.world owner page (PutCell cell new) ≡ [] → EditIsMeant shape file past owner page (PutCell cell new) content cut living
   reads-meant reads none =

@@ -12,7 +12,7 @@ use Rattle.fbc_kinds.specs.View.{View}
 use Rattle.fbc_runs.specs.Ended.{is_owner_of, settled_by}
 use Rattle.fbc_runs.specs.Reading.{ReadsAs}
 use Rattle.fbc_runs.specs.Runs.{machine_after}
-use Rattle.fbc_views.specs.Edited.{with_page}
+use Rattle.fbc_page_edits.specs.Edited.{with_page}
 use Rattle.fbc_world.specs.History.{History}
 use Rattle.fbc_world.specs.World.{World, world_of}
 use Rattle.fbc_legal.specs.Scene.{scene_of}
@@ -43,7 +43,7 @@ module _ (shape : Shape) (file : View) (past : History) (owner page cell : ℕ) 
   same : newest.asked ≡ carried.asked
   same = let both = same_list in cc
 
-  -- the machine answers that it is done
+  -- The machine answers that it is done.
   answered : IsReply m carried.asked (done_reply carried.asked)
   answered = subst (λ (c : Command). IsReply m c (done_reply c)) same (newest-answered shape file past is.whole is.simulated owner page cell new content newest)
 

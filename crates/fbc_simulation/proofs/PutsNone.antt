@@ -1,5 +1,6 @@
 -- Versions that are put and are no change of a row: moves, backouts and cuts.
 use Rattle.std.proofs.Common.{◌≡◌, ◌∙◌, ℕ, true, [], Some, refl, sym, ap}
+use Rattle.fbc_kinds.proofs.Tests.{test_of_different}
 use Rattle.fbc_kinds.specs.declared.edits.Edit.TheVariants.{PutCell}
 use Rattle.fbc_kinds.specs.declared.pages.Cell.{Cell}
 use Rattle.fbc_kinds.specs.declared.shapes.Shape.{Shape}
@@ -16,7 +17,6 @@ use Rattle.fbc_legal.specs.Scene.{Scene, newest_at, scene_of}
 use Rattle.fbc_numbers.specs.Numbers.{is_committed_in}
 use Rattle.fbc_numbers.proofs.CutFacts.{clash}
 use Rattle.fbc_origins.proofs.PutPages.{IsPutPage, newest-sound, put-page, put-reached}
-use Rattle.fbc_origins.proofs.PutsAllowed.{test_of_differ}
 use Rattle.fbc_soundness.specs.Whole.{IsWhole}
 use Rattle.fbc_simulation.specs.EditIn.{commands_made}
 use Rattle.fbc_simulation.proofs.PutsIn.{back-command, no-command, not-own}
@@ -38,7 +38,7 @@ module _ (shape : Shape) (file : View) (past : History) (whole : IsWhole (scene_
   pub moves-none : IsMove at owner page cell new → None_made
   moves-none move = back-command (is_number_of new.number (w.transaction owner)) shape owner cell new (page_for owner (w.kept page) (w.draft page)) (ap (λ (v : Cell). v.flag) move.same)
 
-  -- the number is committed in the file
+  -- The number is committed in the file.
   pub cut-committed : (takes : IsCut at page cell new) → is_committed_in w.kept new.number ≡ true
   cut-committed takes = ap (is_committed_in w.kept) (ap (λ (v : Cell). v.number) takes.same) ∙ takes.settled.committed
 
@@ -49,15 +49,15 @@ module _ (shape : Shape) (file : View) (past : History) (whole : IsWhole (scene_
     abbrev put : IsPutPage at owner page cell new
     put = put-page at owner page cell new g
 
-    -- in the newest pages the top is reached, and links to the version below
+    -- In the newest pages the top is reached, and links to the version below.
     pub newest-link : LinksTo (newest_at at) put.data_page.relation page cell backout.old backout.old.back_page backout.old.back_cell
     newest-link = record {
       reached = top put.data_page.sequence page cell backout.old (put-reached at owner page cell new g whole.order.upheld) backout.stands backout.over;
       stands = backout.stands;
-      names = record { some = test_of_differ backout.old.back_page 0 backout.linked; page_is = refl; cell_is = refl };
+      names = record { some = test_of_different backout.old.back_page 0 backout.linked; page_is = refl; cell_is = refl };
     }
 
-    -- which is committed there
+    -- Which is committed there.
     pub below-committed : is_committed_in (newest_at at) new.number ≡ true
     below-committed =
         ap (is_committed_in (newest_at at)) (ap (λ (v : Cell). v.number) backout.same)

@@ -12,8 +12,8 @@ use Rattle.fbc_kinds.specs.Limits.{slots}
 use Rattle.fbc_kinds.specs.View.{View, cell_at, cell_in, is_empty, named_in, pointer_of}
 use Rattle.fbc_kinds.proofs.Tests.{test_of_same}
 use Rattle.fbc_runs.specs.Ended.{is_owner_of}
-use Rattle.fbc_rows.specs.Open.{IsMaker}
-use Rattle.fbc_views.specs.Facing.{IsRowAt}
+use Rattle.fbc_version_edits.specs.Open.{IsMaker}
+use Rattle.fbc_page_edits.specs.Facing.{IsRowAt}
 use Rattle.fbc_world.specs.Commands.{change_of, change_on, is_empty_cell, row_of, where_true}
 use Rattle.fbc_world.specs.History.{History}
 use Rattle.fbc_world.specs.PageCell.{page_for}
@@ -33,7 +33,7 @@ use Rattle.fbc_simulation.proofs.LivingOwners.{HasLiving, has_living}
 use Rattle.fbc_simulation.proofs.PutRows.{row-at}
 use Rattle.fbc_simulation.proofs.PutsIn.{before, data-page, p}
 
--- the change that a version of the owner's open number is
+-- The change that a version of the owner's open number is.
 module _ (shape : Shape) (file : View) (past : History) (whole : IsWhole (scene_of shape file past)) (owner page cell : ℕ) (new : Cell)
     (g : GuardOfEdit (scene_of shape file past) owner page (PutCell cell new)) (t : Transaction) (open_is : HasOpen (scene_of shape file past) owner t) (own : new.number ≡ t.number) where
   abbrev at : Scene
@@ -71,7 +71,7 @@ module _ (shape : Shape) (file : View) (past : History) (owner page cell : ℕ) 
   abbrev row : IsPutPage here owner page cell new
   row = p shape file past owner page cell new content cut living is
 
-  -- the owner's transaction is one of those that go on
+  -- The owner's transaction is one of those that go on.
   own_of : HasLiving living owner → (t : Transaction) → HasOpen here owner t → Contains living t
   own_of own t open_is = subst (Contains living) (same_Some own.t t (sym (is.opens.each own.t own.lives) ∙ ap w.transaction own.own ∙ open_is)) own.lives
 
@@ -81,14 +81,14 @@ module _ (shape : Shape) (file : View) (past : History) (owner page cell : ℕ) 
   pub own-maker : (t : Transaction) → HasOpen here owner t → new.number ≡ t.number → IsMaker living t new
   own-maker t open_is own = record { open_ones = living-open shape file past owner page (PutCell cell new) content cut living is; lives = own-lives t open_is; number = sym own }
 
-  -- its drafts are in the cut
+  -- Its drafts are in the cut.
   drafted_of : HasLiving living owner → (other : ℕ) → HasDraft here owner other → cut other ≡ true
   drafted_of own other has = is.opens.drafts own.t other own.lives (subst (λ o. HasDraft here o other) (sym own.own) has)
 
   drafted : (other : ℕ) → HasDraft here owner other → cut other ≡ true
   drafted = drafted_of (has_living living owner lives)
 
-  -- so the view names the page
+  -- So the view names the page.
   module _ (named : IsNamedData here owner page row.data_page.relation row.data_page.sequence) where
     pointed_seen : pointer_of seen row.data_page.relation (row.data_page.sequence / slots shape.size) ≡ Some named.pointer
     pointed_seen = go (cut 0) refl where

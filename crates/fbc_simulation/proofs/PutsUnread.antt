@@ -16,9 +16,9 @@ use Rattle.fbc_runs.specs.Ended.{is_owner_of, settled_by}
 use Rattle.fbc_runs.specs.Reading.{ReadsAs}
 use Rattle.fbc_runs.specs.Runs.{machine_after}
 use Rattle.fbc_runs.proofs.EndedReads.{change_unread, put_unread}
-use Rattle.fbc_views.specs.Edited.{with_page}
-use Rattle.fbc_rows.specs.Forms.{IsUncommitted}
-use Rattle.fbc_rows.specs.Open.{IsClosed}
+use Rattle.fbc_page_edits.specs.Edited.{with_page}
+use Rattle.fbc_version_edits.specs.Forms.{IsUncommitted}
+use Rattle.fbc_version_edits.specs.Open.{IsClosed}
 use Rattle.fbc_world.specs.Commands.{change_of, change_on, where_true}
 use Rattle.fbc_world.specs.History.{History}
 use Rattle.fbc_world.specs.World.{newest_of}
@@ -47,7 +47,7 @@ module _ (living : List Transaction) (commits : ℕ → Bool) (who : ℕ) (none 
   change relation row true flag.Back value = reads
   change relation row false flag.Back value = reads
 
-  -- whatever change it is
+  -- Whatever change it is.
   pub change-unread : (b : Bool) (shape : Shape) (cell : ℕ) (new : Cell) (found : Option Page) → Unread (where_true b (change_on shape who cell new found))
   change-unread true shape cell new (Some (kind.Data d)) = change _ _ _ new.flag new.value
   change-unread true shape cell new None = reads
@@ -56,18 +56,18 @@ module _ (living : List Transaction) (commits : ℕ → Bool) (who : ℕ) (none 
 
 module _ (shape : Shape) (file : View) (past : History) (owner page cell : ℕ) (new : Cell) (content : Page) (cut : Cut) (living : List Transaction)
     (is : IsEditIn shape file past owner page (PutCell cell new) content cut living) where
-  -- the owner's open number is not committed in the view
+  -- The owner's open number is not committed in the view.
   pub own-uncommitted : (t : Transaction) → HasOpen (scene_of shape file past) owner t → new.number ≡ t.number → IsUncommitted (before shape file past owner page cell new content cut living is) new
   own-uncommitted t open_is own =
       never-committed (scene_of shape file past).world is.whole.order.numbered.grow new.number
       (ap (is_committed_in (newest_of (scene_of shape file past).world)) own ∙ is.whole.order.numbered.uncommitted owner t open_is is.sees.guard.unmarked) cut is.closed
 
   module _ (none : is_owner_of living owner ≡ false) where
-    -- it is none of the open ones
+    -- It is none of the open ones.
     pub own-closed : (t : Transaction) → HasOpen (scene_of shape file past) owner t → new.number ≡ t.number → IsClosed living new.number
     own-closed t open_is own = subst (IsClosed living) (sym own) (others-closed (scene_of shape file past) is.whole cut is.closed living is.opens owner t open_is none)
 
-    -- what is read with the version is meant
+    -- What is read with the version is meant.
     pub unread-meant : ReadsAs (meaning_with living (with_page (before shape file past owner page cell new content cut living is) page content)) (beside shape file past owner page (PutCell cell new) content cut living is)
         → EditIsMeant shape file past owner page (PutCell cell new) content cut living
     unread-meant reads =

@@ -6,7 +6,7 @@ use Rattle.fbc_kinds.specs.Chain.{chain}
 use Rattle.fbc_kinds.specs.Meaning.{made_of, meaning_with, settled, transactions_up_to}
 use Rattle.fbc_kinds.specs.View.{View, next_of}
 use Rattle.fbc_kinds.proofs.Tests.{same_from_test}
-use Rattle.fbc_rows.proofs.Finds.{found_in, none_passes}
+use Rattle.fbc_version_edits.proofs.Finds.{found_in, none_passes}
 use Rattle.fbc_numbers.proofs.CutFacts.{clash}
 
 -- Each transaction of the one list is in the other, and those of the other differ in their numbers.

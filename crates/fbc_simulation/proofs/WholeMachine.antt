@@ -6,7 +6,7 @@ use Rattle.fbc_kinds.specs.declared.snapshots.Transaction.{Transaction}
 use Rattle.fbc_kinds.specs.Machine.{is_open, is_open_of, open_transaction}
 use Rattle.fbc_kinds.specs.Meaning.{IsSameOpen}
 use Rattle.fbc_kinds.specs.View.{View}
-use Rattle.fbc_rows.proofs.Finds.{none_passes}
+use Rattle.fbc_version_edits.proofs.Finds.{none_passes}
 use Rattle.fbc_runs.specs.Ended.{ended_by, is_owner_of, settled_by}
 use Rattle.fbc_runs.proofs.EndedOnes.{closed_stays, is_own, living_stays, with_same}
 use Rattle.fbc_runs.proofs.Numbers.{first_in, later_in}
@@ -27,7 +27,7 @@ module _ (shape : Shape) (file : View) (past : History) (stand : OpenNumbersStan
   abbrev at : Scene
   at = scene_of shape file past
 
-  -- the owner of each open transaction of the machine goes on
+  -- The owner of each open transaction of the machine goes on.
   goes_on : (owner : ℕ) → ¬ (open_transaction (machine_at at) owner ≡ None) → is_owner_of (opens_at at) owner ≡ true
   goes_on owner some = go (at.world.transaction owner) refl (open_transaction (machine_at at) owner) refl (same owner) where
     go : (mine : Option Transaction) → at.world.transaction owner ≡ mine → (theirs : Option Transaction) → open_transaction (machine_at at) owner ≡ theirs → IsSameOpen mine theirs → is_owner_of (opens_at at) owner ≡ true

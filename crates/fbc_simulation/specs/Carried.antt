@@ -13,7 +13,7 @@ use Rattle.fbc_kinds.specs.Meaning.{meaning_with}
 use Rattle.fbc_kinds.specs.View.{View}
 use Rattle.fbc_meanings.specs.Beside.{IsCarriedOut}
 use Rattle.fbc_runs.specs.Ended.{settled_by}
-use Rattle.fbc_views.specs.Edited.{with_page}
+use Rattle.fbc_page_edits.specs.Edited.{with_page}
 use Rattle.fbc_world.specs.History.{History}
 use Rattle.fbc_world.specs.World.{world_of}
 use Rattle.fbc_closed_cuts.specs.Cut.{Cut, view}

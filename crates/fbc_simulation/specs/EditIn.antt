@@ -12,7 +12,7 @@ use Rattle.fbc_kinds.specs.View.{View}
 use Rattle.fbc_runs.specs.Ended.{settled_by}
 use Rattle.fbc_runs.specs.Reading.{ReadsAs}
 use Rattle.fbc_runs.specs.Runs.{machine_after}
-use Rattle.fbc_views.specs.Edited.{with_page}
+use Rattle.fbc_page_edits.specs.Edited.{with_page}
 use Rattle.fbc_world.specs.Commands.{edit_command}
 use Rattle.fbc_world.specs.History.{History}
 use Rattle.fbc_world.specs.PageCell.{page_for}

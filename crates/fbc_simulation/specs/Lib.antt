@@ -4,3 +4,4 @@ pub mod EditIn
 pub mod Plain
 pub mod Newest
 pub mod Carried
+pub mod Changes

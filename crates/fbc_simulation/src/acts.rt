@@ -8,7 +8,7 @@ ghost use Rattle.fbc_legal.specs.Legal.{IsLegal};
 ghost use Rattle.fbc_legal.specs.Scene.{scene_of};
 ghost use Rattle.fbc_simulation.specs.Simulated.{IsSimulated};
 ghost use Rattle.fbc_soundness.specs.Whole.{IsWhole};
-ghost use Rattle.fbc_views.specs.Edited.{IsOfShape};
+ghost use Rattle.fbc_page_edits.specs.Edited.{IsOfShape};
 ghost use Rattle.fbc_world.specs.History.{History, Moment};
 ghost use Rattle.std.specs.Prelude.{◌≡◌, ◌∷◌, [], false};
 
@@ -20,6 +20,7 @@ pub fn first_machines_are_simulated()
 /// Every legal event but an edit keeps the machine beside the history: begins, writes of both outcomes,
 /// deaths, and all that has no command.
 pub fn acts_keep_simulation()
-    ensures { (shape : Shape) (file : View) (before : History) (moment : Moment) → IsLegal shape file (moment ∷ before) → is_edit moment.event.act ≡ false
+    ensures { (shape : Shape) (file : View) (before : History) (moment : Moment)
+        → IsLegal shape file (moment ∷ before) → is_edit moment.event.act ≡ false
         → IsWhole (scene_of shape file before) → IsSimulated (scene_of shape file before) → IsSimulated (scene_of shape file (moment ∷ before)) }
 {}

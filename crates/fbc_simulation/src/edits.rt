@@ -26,7 +26,9 @@ use fbc_meanings::{marks_are_not_read, marks_commit};
 
 /// An edit that changes no cell and no state is no command, and leaves the view to read as before.
 pub fn plain_edits_are_meant()
-    ensures { (shape : Shape) (file : View) (past : History) (owner page : ℕ) (edit : Edit) (content : Page) (cut : Cut) (living : List Transaction) → is_plain edit ≡ true
+    ensures { (shape : Shape) (file : View) (past : History) (owner page : ℕ) (edit : Edit) (content : Page) (cut : Cut)
+        (living : List Transaction)
+        → is_plain edit ≡ true
         → IsEditIn shape file past owner page edit content cut living → EditIsMeant shape file past owner page edit content cut living }
 {}
 
@@ -34,7 +36,8 @@ pub fn plain_edits_are_meant()
 /// not read while its owner is living, and otherwise its commit is in the cut.
 pub fn marks_are_meant()
     ensures { (shape : Shape) (file : View) (past : History) (owner page number : ℕ) (state : State) (content : Page) (cut : Cut) (living : List Transaction)
-        → IsEditIn shape file past owner page (Mark number state) content cut living → EditIsMeant shape file past owner page (Mark number state) content cut living }
+        → IsEditIn shape file past owner page (Mark number state) content cut living
+        → EditIsMeant shape file past owner page (Mark number state) content cut living }
 {
     marks_are_not_read();
     marks_commit();
@@ -51,9 +54,12 @@ pub fn plain_edits_and_marks_come()
 /// An edit whose commands may come keeps all that is simulated, if it is meant in each view of a cut that
 /// sees it.
 pub fn edits_keep_simulation()
-    ensures { (shape : Shape) (file : View) (before : History) (owner page : ℕ) (edit : Edit) (landed : Bool) → IsLegal shape file (happens owner (Local (local.Edit page edit)) landed ∷ before)
+    ensures { (shape : Shape) (file : View) (before : History) (owner page : ℕ) (edit : Edit) (landed : Bool)
+        → IsLegal shape file (happens owner (Local (local.Edit page edit)) landed ∷ before)
         → IsWhole (scene_of shape file before) → IsSimulated (scene_of shape file before)
-        → ((content : Page) (cut : Cut) (living : List Transaction) → IsEditIn shape file before owner page edit content cut living → EditIsMeant shape file before owner page edit content cut living)
+        → ((content : Page) (cut : Cut) (living : List Transaction)
+        → IsEditIn shape file before owner page edit content cut living
+        → EditIsMeant shape file before owner page edit content cut living)
         → MayAllCome (machine_of shape file before) (commands_made shape (world_of shape file before) owner page edit)
         → IsSimulated (scene_of shape file (happens owner (Local (local.Edit page edit)) landed ∷ before)) }
 {}

@@ -7,7 +7,7 @@ ghost use Rattle.fbc_legal.specs.Legal.{IsLegal};
 ghost use Rattle.fbc_legal.specs.Scene.{scene_of};
 ghost use Rattle.fbc_simulation.specs.Simulated.{IsSimulated};
 ghost use Rattle.fbc_soundness.specs.Whole.{IsWhole};
-ghost use Rattle.fbc_views.specs.Edited.{IsOfShape};
+ghost use Rattle.fbc_page_edits.specs.Edited.{IsOfShape};
 ghost use Rattle.fbc_world.specs.History.{History, Moment};
 ghost use Rattle.std.specs.Prelude.{◌∷◌};
 
@@ -22,7 +22,8 @@ use fbc_soundness::legal_histories_are_whole;
 
 /// Each legal event keeps the machine beside the history.
 pub fn events_keep_simulation()
-    ensures { (shape : Shape) (file : View) (before : History) (moment : Moment) → IsLegal shape file (moment ∷ before) → IsWhole (scene_of shape file before)
+    ensures { (shape : Shape) (file : View) (before : History) (moment : Moment)
+        → IsLegal shape file (moment ∷ before) → IsWhole (scene_of shape file before)
         → IsSimulated (scene_of shape file before) → IsSimulated (scene_of shape file (moment ∷ before)) }
 {
     acts_keep_simulation();
@@ -38,7 +39,8 @@ pub fn events_keep_simulation()
 
 /// After every legal history over a sound file the one-thread machine stands beside it.
 pub fn legal_histories_are_simulated()
-    ensures { (shape : Shape) (file : View) (history : History) → IsOfShape shape file → IsSound file → IsLegal shape file history → IsSimulated (scene_of shape file history) }
+    ensures { (shape : Shape) (file : View) (history : History) → IsOfShape shape file → IsSound file
+        → IsLegal shape file history → IsSimulated (scene_of shape file history) }
 {
     first_machines_are_simulated();
     events_keep_simulation();

@@ -1,5 +1,20 @@
 //! The one-thread machine beside a history: what each closed cut would leave in the file means what the
 //! machine does, where those go on whose drafts are all there.
+//!
+//! - **Proved**:
+//!   - The machine stands beside every legal history over a sound file (`legal_histories_are_simulated`, by
+//!     `IsSimulated` of `specs/Simulated`): take any open transactions, which go on, and a closed cut that
+//!     has all drafts of their owners. With them open the view of the cut reads as a machine. In it they are
+//!     open too, the commits are done whose marks stand in drafts of the cut, and all other open transactions
+//!     are rolled back.
+//!   - So it is at the beginning (`first_machines_are_simulated`), after each act that is no edit
+//!     (`acts_keep_simulation`), and after an edit that is meant in each view of a cut which sees it
+//!     (`edits_keep_simulation`), as every legal one is (`put_cells_are_meant`, `marks_are_meant` and their
+//!     like).
+//!   - The newest pages, with all open transactions of the living, read as the machine itself
+//!     (`newest_pages_are_meant`).
+//! - **Supposed**: the file is a sound one of the shape, and the history legal.
+//! - The functions do nothing when they are run; `fbc_cut` cites them.
 #![tactic(auto)]
 
 mod acts;

@@ -12,7 +12,7 @@ use Rattle.fbc_origins.specs.Origins.{IsOriginal, IsSameVersion}
 use Rattle.fbc_origins.proofs.PastStamps.{stamps-past}
 use Rattle.fbc_origins.proofs.EditsKept.{edits-stay}
 
--- nothing happened yet
+-- Nothing happened yet.
 none_moved : (shape : Shape) (file : View) (owner page cell stamp : ℕ) (history : History) → history ≡ [] → IsMovedBy shape file owner page cell stamp history → ⊥
 none_moved shape file owner page cell stamp _ none (IsMovedBy.moved before moment content edit back same) = cc
 none_moved shape file owner page cell stamp _ none (IsMovedBy.still before moment moved apart) = cc
@@ -27,7 +27,7 @@ nothing_moved shape file owner page cell stamp moved = none_moved shape file own
 nothing_unlinked : (shape : Shape) (file : View) (page cell owner edited stamp : ℕ) → IsUnlinkedBy shape file page cell owner edited stamp [] → ⊥
 nothing_unlinked shape file page cell owner edited stamp unlinked = none_unlinked shape file page cell owner edited stamp [] refl unlinked
 
--- in every view each cell has the stamp 0, and meant 0
+-- In every view each cell has the stamp 0, and meant 0.
 stamp_of : (b : Bool) (cell : ℕ) → (if b then unstamped else unstamped).born cell ≡ 0
 stamp_of true cell = refl
 stamp_of false cell = refl

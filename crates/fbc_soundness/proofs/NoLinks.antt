@@ -7,10 +7,10 @@ use Rattle.fbc_kinds.specs.declared.pages.State.{State}
 use Rattle.fbc_kinds.specs.declared.pages.State.TheVariants.{Active, Committed, Dead, Limbo}
 use Rattle.fbc_kinds.specs.declared.shapes.Shape.{Shape}
 use Rattle.fbc_kinds.specs.View.{View}
-use Rattle.fbc_views.specs.Alike.{HasNoMoreLinks}
-use Rattle.fbc_views.specs.Edited.{with_page}
-use Rattle.fbc_rows.specs.Forms.{AllowsMark}
-use Rattle.fbc_rows.proofs.Marked.{marked_view}
+use Rattle.fbc_page_edits.specs.Alike.{HasNoMoreLinks}
+use Rattle.fbc_page_edits.specs.Edited.{with_page}
+use Rattle.fbc_version_edits.specs.Forms.{AllowsMark}
+use Rattle.fbc_version_edits.proofs.Marked.{marked_view}
 use Rattle.fbc_world.specs.History.{History}
 use Rattle.fbc_world.specs.World.{page_after, world_of}
 use Rattle.fbc_legal.specs.Guards.{GuardOfEdit}
@@ -21,16 +21,16 @@ use Rattle.fbc_numbers.proofs.DeadMarks.{allows-dead, begun-seen}
 use Rattle.fbc_origins.specs.Owed.{IsInOrder, MakeNoLinks, leaves_cells}
 use Rattle.fbc_origins.proofs.NewestFits.{newest-fits}
 use Rattle.fbc_origins.proofs.Seeing.{seen-shape, seen-sound}
-use Rattle.fbc_keeping.proofs.HeaderEdits.{inventory_kept, pointer_kept, tip_kept}
-use Rattle.fbc_keeping.proofs.NextNumbers.{next_kept}
-use Rattle.fbc_keeping.proofs.PageEdits.{free_kept, name_kept, take_kept, unname_kept}
+use Rattle.fbc_soundness.proofs.HeaderEdits.{inventory_kept, pointer_kept, tip_kept}
+use Rattle.fbc_soundness.proofs.NextNumbers.{next_kept}
+use Rattle.fbc_soundness.proofs.PageEdits.{free_kept, name_kept, take_kept, unname_kept}
 
 module _ (shape : Shape) (file : View) (past : History) (order : IsInOrder (scene_of shape file past)) (owner page : ℕ) (content : Page) (seen : View) (stamps : ℕ → Stamps)
     (sees : SeesEdit (scene_of shape file past) owner page seen stamps) where
   abbrev at : Scene
   at = scene_of shape file past
 
-  -- the view sees the edit as what is owed of edits wants it
+  -- The view sees the edit as what is owed of edits wants it.
   pub seen-edit : (e : Edit) → GuardOfEdit at owner page e → page_after shape (world_of shape file past) owner page e ≡ Some content → IsSeenEdit shape file past owner page e content seen stamps
   seen-edit e g made = record {
     guard = g;

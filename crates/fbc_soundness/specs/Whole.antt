@@ -2,8 +2,8 @@
 use Rattle.fbc_legal.specs.Scene.{Scene}
 use Rattle.fbc_numbers.specs.Opens.{OpensStandApart}
 use Rattle.fbc_origins.specs.Owed.{IsInOrder}
-use Rattle.fbc_settled_rows.specs.Cuts.{CutsAreSettled}
-use Rattle.fbc_settled_rows.specs.Rows.{RowsStand}
+use Rattle.fbc_origins.specs.Cuts.{CutsAreSettled}
+use Rattle.fbc_origins.specs.Rows.{RowsStand}
 
 -- Every view is sound, and numbers, marks and stamps are in order; rows are named as they are to be, open numbers stand apart from
 -- all others, and links that drafts have lost were cut of settled versions.

@@ -10,26 +10,25 @@ ghost use Rattle.fbc_legal.specs.Scene.{scene_of};
 ghost use Rattle.fbc_origins.specs.Origins.{IsOriginal};
 ghost use Rattle.fbc_origins.specs.Owed.{IsInOrder, MakeNoLinks};
 ghost use Rattle.fbc_soundness.specs.Whole.{IsWhole};
-ghost use Rattle.fbc_views.specs.Edited.{IsOfShape};
+ghost use Rattle.fbc_page_edits.specs.Edited.{IsOfShape};
 ghost use Rattle.fbc_world.specs.History.{History, Moment};
 ghost use Rattle.std.specs.Prelude.{◌∷◌, []};
 
-use fbc_closed_cuts::{
-    acts_uphold_what_is_upheld, edits_uphold_what_is_upheld, first_views_are_upheld,
-};
-use fbc_keeping::{
+use crate::{
     add_inventory_keeps_views, add_pointer_keeps_views, add_tip_keeps_views, format_keeps_views,
     free_page_keeps_views, name_keeps_views, set_next_keeps_views, take_page_keeps_views,
     unname_keeps_views,
+};
+use fbc_closed_cuts::{
+    acts_uphold_what_is_upheld, edits_uphold_what_is_upheld, first_views_are_upheld,
 };
 use fbc_numbers::{
     commit_marks_keep_views_sound, dead_marks_keep_views_sound, events_keep_numbers,
     events_keep_opens_apart, first_numbers_are_kept, first_opens_stand_apart,
 };
-use fbc_origins::{clear_cell_keeps_views_sound, put_cell_keeps_views_sound};
-use fbc_settled_rows::{
-    events_keep_cuts_settled, events_keep_origins, events_keep_rows_named, first_cuts_are_settled,
-    first_rows_stand,
+use fbc_origins::{
+    clear_cell_keeps_views_sound, events_keep_cuts_settled, events_keep_origins,
+    events_keep_rows_named, first_cuts_are_settled, first_rows_stand, put_cell_keeps_views_sound,
 };
 
 /// Before the first event every stamp is one of the file.
@@ -91,7 +90,8 @@ pub fn events_keep_all_whole()
 
 /// After every legal history over a sound file of its shape all stands as it is to stand.
 pub fn legal_histories_are_whole()
-    ensures { (shape : Shape) (file : View) (history : History) → IsOfShape shape file → IsSound file → IsLegal shape file history → IsWhole (scene_of shape file history) }
+    ensures { (shape : Shape) (file : View) (history : History) → IsOfShape shape file → IsSound file
+        → IsLegal shape file history → IsWhole (scene_of shape file history) }
 {
     first_moments_are_whole();
     events_keep_all_whole();

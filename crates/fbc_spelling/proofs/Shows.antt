@@ -13,7 +13,7 @@ use Rattle.fbc_kinds.specs.InventorySpelling.{broken_inventory}
 use Rattle.fbc_kinds.specs.TipSpelling.{broken_tip}
 use Rattle.fbc_kinds.specs.PointerSpelling.{broken_pointer}
 use Rattle.fbc_kinds.specs.File.{ShowsPage, Shows}
-use Rattle.fbc_kinds.specs.Spelling.{first_broken_rule, broken_blank, broken_first_page, value_length}
+use Rattle.fbc_kinds.specs.Spelling.{first_broken_rule, broken_blank, broken_first_page, listed_length}
 use Rattle.fbc_kinds.specs.DataSpelling.{broken_data, SpellsData}
 use Rattle.fbc_kinds.proofs.HeaderLaws.{header-one_page}
 use Rattle.fbc_kinds.proofs.InventoryLaws.{inventory-one_page}
@@ -28,7 +28,7 @@ use Rattle.fbc_kinds.proofs.Tests.{same_from_test}
 use Rattle.fbc_cells.proofs.Unbroken.{unbroken_pointer, unbroken_data}
 use Rattle.fbc_spelling.proofs.KindBytes.{relation_in-data}
 
--- the byte that names a page's kind
+-- The byte that names a page's kind.
 abbrev pub code_of : Page → ℕ
 code_of (kind.Header h) = 1
 code_of (kind.Inventory i) = 2
@@ -51,17 +51,17 @@ shown_code shape number bytes kind.Blank s = ap (λ (all : List ℕ). slice_inde
 blank_unbroken : (size : ℕ) (bytes : List ℕ) → bytes ≡ replicate size 0 → broken_blank bytes ≡ None
 blank_unbroken size bytes is = rw (is, is_zeros-replicate size)
 
--- the rule of the page whose kind has this byte
-abbrev rule_by : Shape → ℕ → List ℕ → ℕ → Option Rule
+-- The rule of the page whose kind has this byte.
+abbrev pub rule_by : Shape → ℕ → List ℕ → ℕ → Option Rule
 rule_by shape number bytes code =
     if code == 1 then broken_first_page shape.size number bytes
     else if code == 2 then broken_inventory shape.size number bytes
     else if code == 3 then broken_tip number bytes
     else if code == 4 then broken_pointer number bytes
-    else if code == 5 then broken_data shape.size (value_length shape (relation_in bytes)) number bytes
+    else if code == 5 then broken_data shape.size (listed_length shape (relation_in bytes)) number bytes
     else broken_blank bytes
 
--- they break no rule
+-- They break no rule.
 pub unbroken_shown : (shape : Shape) (number : ℕ) (bytes : List ℕ) (page : Page) → IsPageSize shape.size → ShowsPage shape number bytes page → first_broken_rule shape number bytes ≡ None
 unbroken_shown shape number bytes (kind.Header h) is s =
     ap (rule_by shape number bytes) (shown_code shape number bytes (kind.Header h) s)
@@ -81,9 +81,9 @@ unbroken_shown shape number bytes (kind.Pointer p) is s =
     ∙ unbroken_pointer shape.size p bytes s.spelled
 unbroken_shown shape number bytes (kind.Data d) is s =
     ap (rule_by shape number bytes) (shown_code shape number bytes (kind.Data d) s)
-    ∙ ap (λ n. broken_data shape.size (value_length shape (relation_in bytes)) n bytes) (sym (same_from_test d.page number s.stands))
-    ∙ ap (λ r. broken_data shape.size (value_length shape r) d.page bytes) (relation_in-data shape.size (value_length shape d.relation) d bytes s.spelled)
-    ∙ unbroken_data shape.size (value_length shape d.relation) d bytes is s.spelled
+    ∙ ap (λ n. broken_data shape.size (listed_length shape (relation_in bytes)) n bytes) (sym (same_from_test d.page number s.stands))
+    ∙ ap (λ r. broken_data shape.size (listed_length shape r) d.page bytes) (relation_in-data shape.size (listed_length shape d.relation) d bytes s.spelled)
+    ∙ unbroken_data shape.size (listed_length shape d.relation) d bytes is s.spelled
 unbroken_shown shape number bytes kind.Blank is s =
     ap (rule_by shape number bytes) (shown_code shape number bytes kind.Blank s)
     ∙ blank_unbroken shape.size bytes s.spelled
@@ -95,18 +95,18 @@ same_page shape number bytes (kind.Inventory a) (kind.Inventory b) is code s t =
 same_page shape number bytes (kind.Tip a) (kind.Tip b) is code s t = ap kind.Tip (tip-one_page shape.size a b bytes s.spelled t.spelled)
 same_page shape number bytes (kind.Pointer a) (kind.Pointer b) is code s t = ap kind.Pointer (one_pointer_page shape.size a b bytes s.spelled t.spelled)
 same_page shape number bytes (kind.Data a) (kind.Data b) is code s t =
-    let same : b.relation ≡ a.relation = sym (relation_in-data shape.size (value_length shape b.relation) b bytes t.spelled) ∙ relation_in-data shape.size (value_length shape a.relation) a bytes s.spelled in
-    let P : ℕ → Type 0 = λ r. SpellsData shape.size (value_length shape r) b bytes in
-    ap kind.Data (one_data_page shape.size (value_length shape a.relation) a b bytes s.spelled (subst P same t.spelled))
+    let same : b.relation ≡ a.relation = sym (relation_in-data shape.size (listed_length shape b.relation) b bytes t.spelled) ∙ relation_in-data shape.size (listed_length shape a.relation) a bytes s.spelled in
+    let P : ℕ → Type 0 = λ r. SpellsData shape.size (listed_length shape r) b bytes in
+    ap kind.Data (one_data_page shape.size (listed_length shape a.relation) a b bytes s.spelled (subst P same t.spelled))
 same_page shape number bytes kind.Blank kind.Blank is code s t = refl
 same_page shape number bytes _ _ is code s t = absurd (omega arith)
 
--- they show one page
+-- They show one page.
 pub one_shown : (shape : Shape) (number : ℕ) (bytes : List ℕ) (a b : Page) → IsPageSize shape.size
     → ShowsPage shape number bytes a → ShowsPage shape number bytes b → a ≡ b
 one_shown shape number bytes a b is s t = same_page shape number bytes a b is (sym (shown_code shape number bytes a s) ∙ shown_code shape number bytes b t) s t
 
--- what they show is the page that they spell, or no page where they break a rule
+-- What they show is the page that they spell, or no page where they break a rule.
 pub shown_is : (shape : Shape) (number : ℕ) (bytes : List ℕ) (page : Page) (shown : Option Page) → IsPageSize shape.size
     → ShowsPage shape number bytes page → Shows shape number bytes shown → shown ≡ Some page
 shown_is shape number bytes page None is s shows = absurd (shows page s)

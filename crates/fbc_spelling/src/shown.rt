@@ -4,13 +4,13 @@ ghost use Rattle.std.specs.Prelude.{◌≡◌, length, replicate, IfOk};
 ghost use Rattle.fbc_kinds.specs.Edits.{IsWithinLimits};
 ghost use Rattle.fbc_kinds.specs.File.{ShowsPage};
 ghost use Rattle.fbc_kinds.specs.Head.{Gives, relation_in};
-ghost use Rattle.fbc_kinds.specs.HeaderSpelling.{IsShape, SpellsHeader};
-ghost use Rattle.fbc_kinds.specs.Spelling.{broken_blank, broken_first_page, first_broken_rule, value_length};
+ghost use Rattle.fbc_kinds.specs.HeaderSpelling.{IsFileShape, SpellsHeader};
+ghost use Rattle.fbc_kinds.specs.Spelling.{broken_blank, broken_first_page, first_broken_rule, listed_length};
 ghost use Rattle.fbc_kinds.specs.declared.pages.Page.TheVariants as kind;
 ghost use Rattle.fbc_kinds.specs.Limits.{IsPageSize};
 ghost use Rattle.fbc_kinds.specs.DataSpelling.{SpellsData, broken_data};
 
-use crate::lengths::value_length;
+use crate::lengths::listed_length;
 use fbc_cells::{decode_data, decode_pointer};
 use fbc_kinds::{Data, Header, Page, PageFault, Rule, Shape};
 use fbc_pages::numbers::{is_zeros, read_u16};
@@ -28,7 +28,7 @@ pub fn page_shown(
     number: u32,
     bytes: &[u8],
 ) -> Result<Page, PageFault>
-    requires shape { IsShape shape.now }
+    requires shape { IsFileShape shape.now }
     requires length { length bytes.now ≡ shape.now.size }
     ensures found { IfOk result (λ page. ShowsPage shape.now number bytes.now page) }
     ensures limits { IfOk result (λ page. IsWithinLimits shape.now page) }
@@ -61,13 +61,13 @@ fn first_page(alloc: Global, size: u32, number: u32, bytes: &[u8]) -> Result<Hea
 
 /// A data page, for the values of the relation that it names itself.
 fn data_page(alloc: Global, shape: &Shape, number: u32, bytes: &[u8]) -> Result<Data, PageFault>
-    requires shape { IsShape shape.now }
+    requires shape { IsFileShape shape.now }
     requires length { length bytes.now ≡ shape.now.size }
     ensures number { IfOk result (λ page. page.page ≡ number) }
-    ensures found { IfOk result (λ page. SpellsData shape.now.size (value_length shape.now page.relation) page bytes.now) }
-    ensures exact { Gives result (broken_data shape.now.size (value_length shape.now (relation_in bytes.now)) number bytes.now) }
+    ensures found { IfOk result (λ page. SpellsData shape.now.size (listed_length shape.now page.relation) page bytes.now) }
+    ensures exact { Gives result (broken_data shape.now.size (listed_length shape.now (relation_in bytes.now)) number bytes.now) }
 {
-    let greatest = value_length(shape, read_u16(bytes, 2));
+    let greatest = listed_length(shape, read_u16(bytes, 2));
     decode_data(alloc, shape.size, greatest, number, bytes)
 }
 

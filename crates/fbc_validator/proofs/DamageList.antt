@@ -17,7 +17,7 @@ module _ (f : ℕ → Option Rule) where
   one_page page None rest = refl
   one_page page (Some r) rest = refl
 
-  -- the pages of the list are those that break a rule
+  -- The pages of the list are those that break a rule.
   pages_of : (pages : List ℕ) → map (λ (d : ℕ × Rule). d.0) (damages_of pages) ≡ filter (λ page. is_some (f page)) pages
   pages_of [] = refl
   pages_of (p ∷ ps) =
@@ -37,7 +37,7 @@ module _ (f : ℕ → Option Rule) where
   damage_in page broken None e = cc
   damage_in page broken (Some r) e = let same : r ≡ broken = cc in inl (ap (λ x. (page, x)) same)
 
-  -- a page stands in the list with the rule that it breaks
+  -- A page stands in the list with the rule that it breaks.
   pub damages_listed : (pages : List ℕ) (page : ℕ) (broken : Rule) → Contains (damages_of pages) (page, broken) ↔ (Contains pages page × (f page ≡ Some broken))
   damages_listed pages page broken = (
     (λ stands.

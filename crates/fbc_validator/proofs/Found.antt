@@ -25,7 +25,7 @@ not_none [] some e = omega arith
 not_none (d ∷ ds) some e = cc
 
 module _ (shape : Shape) (bytes : List ℕ) (view : View) where
-  -- a tally shows that each page that is named and breaks no rule by itself is spelled
+  -- A tally shows that each page that is named and breaks no rule by itself is spelled.
   pub spelled_by : IsViewOf shape bytes view → (tally : Tally) → IsTallyOf shape (Some bytes) (namings view) tally → AreSpelled shape bytes view
   spelled_by shown tally kept page named unbroken = by (get nat_eq tally.pages page) (kept page)
     where

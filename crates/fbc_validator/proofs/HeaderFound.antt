@@ -35,7 +35,7 @@ use Rattle.fbc_validator.proofs.Places.{contains_in, in_contains}
 use Rattle.fbc_spelling.proofs.Shows.{shown_is}
 
 module _ (shape : Shape) (bytes : List ℕ) (view : View) (size : IsPageSize shape.size) (shown : IsViewOf shape bytes view) where
-  -- a header that the first page spells is the view's
+  -- A header that the first page spells is the view's.
   pub header_shown : (header : Header) → SpellsHeader shape.size header (page_bytes shape.size bytes 0) → header_of view ≡ Some header
   header_shown header spells =
       ap header_in (shown_is shape 0 (page_bytes shape.size bytes 0) (kind.Header header) (view 0) size (record { spelled = spells; stands = refl }) (shown 0))
@@ -58,7 +58,7 @@ no_role (Some (kind.Data d)) none shows = cc
 no_role (Some kind.Blank) none shows = cc
 no_role None none shows = cc
 
--- a first page of another kind breaks the rule on kinds, and one of its kind those of a header
+-- A first page of another kind breaks the rule on kinds, and one of its kind those of a header.
 rule_of_kind : (own : Bool) (by_header by_kind : Option Rule) (broken : Rule) → (own ≡ true → by_kind ≡ by_header) → (own ≡ false → by_header ≡ Some rule.Kind)
     → by_header ≡ Some broken → or_else (broken_if (not own || false) rule.Kind) by_kind ≡ Some broken
 rule_of_kind true by_header by_kind broken same other e = same refl ∙ e
@@ -131,12 +131,12 @@ module _ (shape : Shape) (size : IsPageSize shape.size) (bytes : List ℕ) (view
   unsound : IsSound view → ⊥
   unsound sound = no_role (view 0) none (sound.fitting reach.HeaderRole 0 refl)
 
-  -- where the header breaks a rule it is the one damage
+  -- Where the header breaks a rule it is the one damage.
   pub header_damaged : (found : Findings) → found.damages ≡ (0, broken) ∷ [] → found.lost_pages ≡ [] → found.lost_cells ≡ [] → AreFindings shape bytes view found
   header_damaged found is pages cells =
       with_damage shape bytes view ((0, broken) ∷ []) ((λ empty. cc), (λ sound. absurd (unsound sound))) one_damage (omega arith) found is pages cells
 
--- what is found by the header that a first page spells, whichever bytes the device tells
+-- What is found by the header that a first page spells, whichever bytes the device tells.
 pub file_found : (shape : Shape) (header : Header) (file now : Option (List ℕ)) (first : List ℕ) (r : Result Findings ValidateFault) → IsPageSize shape.size
     → now ≡ file → AreBytesOf file shape.size 0 first → SpellsHeader shape.size header first
     → IfOk r (λ found. (bytes : List ℕ) (view : View) → now ≡ Some bytes → IsViewOf shape bytes view → header_of view ≡ Some header → AreFindings shape bytes view found)
@@ -146,7 +146,7 @@ file_found shape header file now first (Ok findings) size same read spells found
     let place : first ≡ page_bytes shape.size bytes 0 = subst (λ o. AreBytesOf o shape.size 0 first) told read in
     found bytes view (same ∙ told) shown (header_shown shape bytes view size shown header (subst (SpellsHeader shape.size header) place spells))
 
--- and a damaged header, likewise
+-- And a damaged header, likewise.
 pub file_damaged : (shape : Shape) (file : Option (List ℕ)) (first : List ℕ) (fault : PageFault) (broken : Rule) (found : Findings) → IsPageSize shape.size
     → AreBytesOf file shape.size 0 first → fault ≡ Damaged broken → Tells fault (broken_header shape.size first)
     → found.damages ≡ (0, broken) ∷ [] → found.lost_pages ≡ [] → found.lost_cells ≡ []
@@ -157,6 +157,6 @@ file_damaged shape file first fault broken found size read is tells damages page
     let breaks : broken_header shape.size first ≡ Some broken = subst P is tells in
     header_damaged shape size bytes view shown broken (sym (ap (broken_header shape.size) place) ∙ breaks) found damages pages cells
 
--- a count that rose after a later one rose
+-- A count that rose after a later one rose.
 pub rose_before : (before later now : ℕ) → before ≤ later → Rose later now → Rose before now
 rose_before before later now falls rose = grind arith

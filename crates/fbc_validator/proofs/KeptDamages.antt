@@ -8,11 +8,11 @@ use Rattle.fbc_kinds.specs.declared.rules.Rule.{Rule}
 use Rattle.fbc_kinds.specs.declared.shapes.Shape.{Shape}
 use Rattle.fbc_kinds.specs.File.{page_bytes, IsViewOf}
 use Rattle.fbc_kinds.specs.View.{View, header_of}
-use Rattle.fbc_chains.specs.declared.chains.Chains.{Chains}
+use Rattle.fbc_links.specs.declared.chains.Chains.{Chains}
 use Rattle.fbc_reach.specs.declared.namings.Naming.{Naming}
 use Rattle.fbc_reach.specs.declared.tally.NamedPage.{NamedPage}
 use Rattle.fbc_reach.specs.declared.tally.Tally.{Tally}
-use Rattle.fbc_chains.specs.Chains.{AreChainsOf}
+use Rattle.fbc_links.specs.Chains.{AreChainsOf}
 use Rattle.fbc_validator.specs.Damage.{broken_page, AreDamages}
 use Rattle.fbc_validator.specs.Damages.{broken_in, damage_in}
 use Rattle.fbc_reach.specs.Tally.{IsKept, IsTallyOf}
@@ -34,7 +34,7 @@ any_found done page none any =
 
 module _ (shape : Shape) (bytes : List ℕ) (view : View) (shown : IsViewOf shape bytes view) (header : Header) (is : header_of view ≡ Some header)
     (tally : Tally) (next : tally.next ≡ header.next) (kept : IsTallyOf shape (Some bytes) (namings view) tally) (chains : Chains) (are : AreChainsOf view chains) where
-  -- a page that is kept is named, and breaks the rule of the definition
+  -- A page that is kept is named, and breaks the rule of the definition.
   to_rule : (page : ℕ) (broken : Rule) (o : Option NamedPage) → IsKept shape (Some bytes) tally.next (namings view) page o → broken_in header tally chains page o ≡ Some broken
       → (list_any (is_of_page page) (namings view) ≡ true) × (broken_page shape view page (page_bytes shape.size bytes page) ≡ Some broken)
   to_rule page broken None k e = cc

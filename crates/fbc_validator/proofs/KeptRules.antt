@@ -7,11 +7,11 @@ use Rattle.fbc_kinds.specs.declared.shapes.Shape.{Shape}
 use Rattle.fbc_kinds.specs.File.{page_bytes, IsViewOf}
 use Rattle.fbc_kinds.specs.Head.{or_else}
 use Rattle.fbc_kinds.specs.View.{View, header_of, size_of, next_of}
-use Rattle.fbc_chains.specs.declared.chains.Chains.{Chains}
+use Rattle.fbc_links.specs.declared.chains.Chains.{Chains}
 use Rattle.fbc_reach.specs.declared.namings.Role.{Role}
 use Rattle.fbc_reach.specs.declared.tally.NamedPage.{NamedPage}
 use Rattle.fbc_reach.specs.declared.tally.Tally.{Tally}
-use Rattle.fbc_chains.specs.Chains.{AreChainsOf}
+use Rattle.fbc_links.specs.Chains.{AreChainsOf}
 use Rattle.fbc_reach.specs.Content.{content_of, differs_in_relation, differs_in_sequence, holds_late}
 use Rattle.fbc_validator.specs.Damage.{broken_if, in_some_role, has_other_kind, is_named_twice, breaks_future, broken_alone, broken_in_place, broken_page}
 use Rattle.fbc_reach.specs.Roles.{is_late_in, has_other_relation, has_other_sequence, kind_code}
@@ -22,7 +22,7 @@ use Rattle.fbc_reach.proofs.Kept.{kept_future, kept_relation, kept_sequence}
 use Rattle.fbc_validator.proofs.TakenPages.{taken_same}
 use Rattle.fbc_reach.proofs.ShownPages.{header_size}
 
--- roles that pass one test pass the same
+-- Roles that pass one test pass the same.
 same_test : (view : View) (page : ℕ) (f g : Role → Bool) → ((r : Role) → f r ≡ g r) → in_some_role view page f ≡ in_some_role view page g
 same_test view page f g same = ap (in_some_role view page) (λ i r. same r i)
 

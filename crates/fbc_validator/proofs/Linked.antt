@@ -10,13 +10,13 @@ use Rattle.fbc_kinds.specs.Sound.{IsSound}
 use Rattle.fbc_kinds.specs.View.{View, cell_at, is_top}
 use Rattle.fbc_kinds.proofs.Heads.{both_pass}
 use Rattle.fbc_kinds.proofs.Tests.{same_from_test, test_of_same}
-use Rattle.fbc_chains.specs.Chains.{is_to, is_target}
-use Rattle.fbc_chains.specs.Links.{Link, link_of, links, is_faulty}
+use Rattle.fbc_links.specs.Chains.{is_to, is_target}
+use Rattle.fbc_links.specs.Links.{Link, link_of, links, is_faulty}
 use Rattle.fbc_reach.specs.Walk.{is_of_page, namings}
-use Rattle.fbc_chains.proofs.Chained.{sound_link, on_walk}
+use Rattle.fbc_links.proofs.Chained.{sound_link, on_walk}
 use Rattle.fbc_reach.proofs.Members.{In, any_here, any_some}
 use Rattle.fbc_reach.proofs.SameRoles.{both_true}
-use Rattle.fbc_chains.proofs.SoundLinks.{link_from}
+use Rattle.fbc_links.proofs.SoundLinks.{link_from}
 use Rattle.fbc_validator.proofs.SoundPages.{one, faultless}
 use Rattle.fbc_reach.proofs.ShownPages.{all_slots}
 

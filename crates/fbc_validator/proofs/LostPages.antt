@@ -32,7 +32,7 @@ use Rattle.fbc_validator.proofs.TakenPages.{taken_same}
 use Rattle.fbc_reach.proofs.ShownPages.{all_slots, header_size}
 
 module _ (shape : Shape) (bytes : List ℕ) (view : View) (shown : IsViewOf shape bytes view) where
-  -- a page that is kept is reached, and one that is not kept is not
+  -- A page that is kept is reached, and one that is not kept is not.
   kept_reached : (next page : ℕ) (o : Option NamedPage) → IsKept shape (Some bytes) next (namings view) page o → is_some o ≡ true → reach.ReachesPage view page
   kept_reached next page None kept some = cc
   kept_reached next page (Some named) kept some =
@@ -50,7 +50,7 @@ module _ (shape : Shape) (bytes : List ℕ) (view : View) (shown : IsViewOf shap
       let both : None ≡ Some found.0 = sym kept ∙ found.1 in
       cc
 
--- a page that a counted page inventory covers
+-- A page that a counted page inventory covers.
 covered : (page bits count : ℕ) → 0 < bits → nat_lt (page / bits) count ≡ true → page < count * bits
 covered page bits count some below =
     elim (cases_lt page (count * bits)) [
@@ -61,7 +61,7 @@ covered page bits count some below =
           absurd (omega arith))
     ]
 
--- the pages of a file have the size that its header names
+-- The pages of a file have the size that its header names.
 pub file_size : (shape : Shape) (bytes : List ℕ) (view : View) → IsViewOf shape bytes view → (h : Header) → header_of view ≡ Some h → IsPageSize h.size → IsPageSize shape.size
 file_size shape bytes view shown h is size =
     let same : h.size ≡ shape.size = sym (ap (λ o. option_map_or (λ (g : Header). g.size) o 0) is) ∙ header_size shape bytes view shown h is in
@@ -92,7 +92,7 @@ module _ (shape : Shape) (bytes : List ℕ) (view : View) (shown : IsViewOf shap
   page_lost : (page : ℕ) → IsLostPage view page → is_lost_by tally h page ≡ true
   page_lost page lost = both_true _ _ (taken_same shape bytes view shown h is tally kept page ∙ lost.taken) (unnamed page lost.unreached)
 
-  -- so they are all those in the list
+  -- So they are all those in the list.
   pub pages_lost : (lost : List ℕ) → lost ≡ filter (is_lost_by tally h) (range_with_len 0 (h.inventories * inventory_bits h.size))
       → (page : ℕ) → Contains lost page ↔ IsLostPage view page
   pages_lost lost all page =

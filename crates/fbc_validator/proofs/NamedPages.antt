@@ -21,7 +21,7 @@ in_pages [] n i = absurd i
 in_pages (m ∷ ns) n (inl e) = inl (ap (λ (x : Naming). x.page) e)
 in_pages (m ∷ ns) n (inr i) = inr (in_pages ns n i)
 
--- after a sort each of them stands once
+-- After a sort each of them stands once.
 pub pages_named : (ns : List Naming) (sorted once : List ℕ) → IsPermutation (map (λ (n : Naming). n.page) ns) sorted → once ≡ dedup eqb sorted
     → (page : ℕ) → Contains once page ↔ (list_any (is_of_page page) ns ≡ true)
 pages_named ns sorted once moved is page = (

@@ -7,7 +7,7 @@ use Rattle.fbc_kinds.specs.Spelling.{first_broken_rule}
 use Rattle.fbc_kinds.specs.View.{View, is_taken}
 use Rattle.fbc_reach.specs.Roles.{has_other_relation, has_other_sequence}
 use Rattle.fbc_validator.specs.Damage.{broken_if, in_some_role, has_other_kind, is_named_twice, breaks_future, broken_page}
-use Rattle.fbc_chains.specs.Links.{breaks_chain, breaks_below}
+use Rattle.fbc_links.specs.Links.{breaks_chain, breaks_below}
 
 pub record BreaksNone (shape : Shape) (view : View) (page : ℕ) (bytes : List ℕ) : Type 0 where
   pub own_kind : has_other_kind view page bytes ≡ false

@@ -25,7 +25,7 @@ in_contains (y ∷ ys) x (inr i) =
     let less : c.0 < length ys = c.1 in
     (suc c.0, (let next : suc c.0 < length (y ∷ ys) = omega arith in next), c.2)
 
--- the numbers from one on, so many
+-- The numbers from one on, so many.
 pub range_in : (a n x : ℕ) → a ≤ x → x < a + n → In (range_with_len a n) x
 range_in a zero x from below = absurd (omega arith)
 range_in a (suc n) x from below =
@@ -53,7 +53,7 @@ range_more a (suc n) =
     ap (λ rest. a ∷ rest)
     (range_more (a + 1) n ∙ ap (λ x. range_with_len (a + 1) n ++ x ∷ []) (let same : a + 1 + n ≡ a + suc n = omega arith in same))
 
--- those of the first numbers that pass a test, with one number more
+-- Those of the first numbers that pass a test, with one number more.
 passing_more : (p : ℕ → Bool) (n : ℕ) → filter p (range_with_len 0 (n + 1)) ≡ filter p (range_with_len 0 n) ++ cond (p n) (n ∷ []) []
 passing_more p n =
     ap (λ count. filter p (range_with_len 0 count)) (let same : n + 1 ≡ suc n = omega arith in same)
@@ -74,7 +74,7 @@ passing_step p n now new b test was is =
     either true = refl
     either false = sym (append-nil now)
 
--- at most so many items of a list
+-- At most so many items of a list.
 pub take_least : {X : Type 0} (xs : List X) (n limit : ℕ) → n ≡ min (length xs) limit → take n xs ≡ take limit xs
 take_least xs n limit least =
     elim (cases_lt limit (length xs)) [

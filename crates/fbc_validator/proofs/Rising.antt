@@ -8,7 +8,7 @@ use Rattle.fbc_kinds.specs.Lost.{ComesBefore}
 use Rattle.fbc_reach.proofs.Members.{In, in_either, flat_map_in}
 use Rattle.fbc_validator.proofs.Places.{contains_in, in_contains}
 
--- each cell comes before all later ones
+-- Each cell comes before all later ones.
 abbrev pub Rises : List (ℕ × ℕ) → Type 0
 Rises [] = Unit {0}
 Rises (x ∷ xs) = ((y : ℕ × ℕ) → In xs y → ComesBefore x y) × Rises xs
@@ -26,7 +26,7 @@ rises_both (x ∷ xs) ys one two before = (
   rises_both xs ys one.1 two (λ a b i j. before a b (inr i) j),
 )
 
--- the cells of rising pages rise where those of each page do
+-- The cells of rising pages rise where those of each page do.
 module _ (f : ℕ → List (ℕ × ℕ)) (own : (page : ℕ) (x : ℕ × ℕ) → In (f page) x → x.0 ≡ page) (each : (page : ℕ) → Rises (f page)) where
   pub pages_rise : (pages : List ℕ) → AllPairs (λ x y. x < y) pages → Rises (flat_map f pages)
   pages_rise [] rise = tt

@@ -20,7 +20,7 @@ use Rattle.fbc_reach.specs.declared.namings.Role.TheVariants as role
 use Rattle.fbc_reach.specs.declared.namings.Naming.{Naming}
 use Rattle.fbc_reach.specs.Roles.{reached_as, kind_code, is_same_role, has_other_relation, has_other_sequence, is_late_in, is_late_version, has_late_state}
 use Rattle.fbc_reach.specs.Walk.{naming, is_of_page, is_in_role, namings, data_namings, relation_of_role, relation_of_naming}
-use Rattle.fbc_chains.specs.Links.{Link, is_relation, is_smaller_back, is_back_value, links, is_to_same, is_from_same, is_faulty, is_uncommitted, breaks_chain, breaks_below}
+use Rattle.fbc_links.specs.Links.{Link, is_relation, is_smaller_back, is_back_value, links, is_to_same, is_from_same, is_faulty, is_uncommitted, breaks_chain, breaks_below}
 use Rattle.fbc_validator.specs.Damage.{in_some_role, has_other_kind, is_named_twice, breaks_future}
 use Rattle.fbc_reach.proofs.Members.{In, any_none, any_some, find_in, find_some}
 use Rattle.fbc_validator.proofs.NoRule.{no_rule_broken}
@@ -29,7 +29,7 @@ use Rattle.fbc_reach.proofs.SameRoles.{as_named, as_named_reached, both_true, ow
 use Rattle.fbc_reach.proofs.Reached.{AreSingle, naming_reached, from_data, data_walked}
 use Rattle.fbc_reach.proofs.ShownPages.{all_slots, shows}
 use Rattle.fbc_validator.proofs.Undamaged.{AreUnbroken}
-use Rattle.fbc_chains.proofs.SoundLinks.{IsLinkOf, link_from}
+use Rattle.fbc_links.proofs.SoundLinks.{IsLinkOf, link_from}
 
 get_in : {X : Type 0} (xs : List X) (x : X) → In xs x → (k : ℕ) × (slice_get xs k ≡ Some x)
 get_in [] x i = absurd i
@@ -54,7 +54,7 @@ no_late_state next number (s ∷ ss) each =
     (λ changed. let below = each 0 s refl (false_from_not _ changed) in not_of_true _ (lt-ltb number next (omega arith))))
     (no_late_state next (suc number) ss (λ place state e changed. let below = each (suc place) state e changed in omega arith))
 
--- nothing of the future stands in a page
+-- Nothing of the future stands in a page.
 not_late : (view : View) → IsSound view → (named : Role) (page : ℕ) → reach.page_for view (reached_as named) ≡ Some page
     → is_late_in (size_of view) (next_of view) named (view page) ≡ false
 not_late view sound (role.Data relation sequence) page reached = go (view page) refl
@@ -95,7 +95,7 @@ module _ (shape : Shape) (bytes : List ℕ) (view : View) (size : IsPageSize sha
       ∙ ap as_named (sound.once (reached_as n.role) (reached_as m.role) n.page (reached n i) (reached m j ∙ ap Some (sym same)))
       ∙ as_named_reached m.role
 
-  -- what stands in the place of a page that is named
+  -- What stands in the place of a page that is named.
   known : (n : Naming) → In (namings view) n → (p : ℕ) → n.page ≡ p → (stands : Page) × (view p ≡ Some stands) × Fits n.role stands
   known n i p same =
       let found = shown_in n.role n.page (view n.page) (sound.fitting (reached_as n.role) n.page (reached n i)) in
@@ -143,7 +143,7 @@ module _ (shape : Shape) (bytes : List ℕ) (view : View) (size : IsPageSize sha
       role_fails p (λ named. is_late_in (size_of view) (next_of view) named (view p))
       (λ n i same. not_late view sound n.role p (reached n i ∙ ap Some same))
 
-  -- a back version stands where the walk looks for it
+  -- A back version stands where the walk looks for it.
   good_link : (relation number page cell : ℕ) → IsBackValue view relation page cell number → is_back_value view relation number page cell ≡ true
   good_link relation number page cell value =
       let n : Naming = naming page (role.Data relation value.sequence) in

@@ -19,13 +19,13 @@ use Rattle.fbc_reach.specs.declared.namings.Role.{Role}
 use Rattle.fbc_reach.specs.declared.namings.Role.TheVariants as role
 use Rattle.fbc_reach.specs.Roles.{reached_as, is_late_in, is_late_version, has_late_state}
 use Rattle.fbc_reach.specs.Walk.{naming, is_of_page, namings, relation_of_role}
-use Rattle.fbc_chains.specs.Links.{Link, link_of, links, is_from_same, is_faulty, is_uncommitted}
+use Rattle.fbc_links.specs.Links.{Link, link_of, links, is_from_same, is_faulty, is_uncommitted}
 use Rattle.fbc_validator.specs.Damage.{AreSpelled}
 use Rattle.fbc_reach.proofs.Members.{In, any_false, any_here}
 use Rattle.fbc_validator.proofs.NoRule.{tests_passed}
 use Rattle.fbc_reach.proofs.SameRoles.{as_named, reached_as_named, both_true}
 use Rattle.fbc_reach.proofs.Reached.{AreSingle, reached_named, naming_reached, from_data}
-use Rattle.fbc_chains.proofs.Chained.{IsBack, IsSoundLink, back_found, sound_link, on_walk}
+use Rattle.fbc_links.proofs.Chained.{IsBack, IsSoundLink, back_found, sound_link, on_walk}
 use Rattle.fbc_reach.proofs.ShownPages.{all_slots}
 use Rattle.fbc_validator.proofs.Undamaged.{AreUnbroken, passes, in_role, fits, single}
 
@@ -34,7 +34,7 @@ in_get [] k x e = cc
 in_get (y ∷ ys) zero x e = inl (let same : y ≡ x = cc in same)
 in_get (y ∷ ys) (suc k) x e = inr (in_get ys k x e)
 
--- a number that is not late is below the next
+-- A number that is not late is below the next.
 past_version : (size next relation sequence : ℕ) (o : Option Page) (cell : ℕ) (version : Cell) → cell_in o cell ≡ Some version
     → is_late_in size next (role.Data relation sequence) o ≡ false → is_empty version.flag ≡ false → version.number < next
 past_version size next relation sequence (Some (kind.Data d)) cell version stands past holds =
@@ -124,7 +124,7 @@ module _ (shape : Shape) (bytes : List ℕ) (view : View) (shown : IsViewOf shap
         smaller = found.smaller;
       }))
 
-  -- the first good link to a place
+  -- The first good link to a place.
   abbrev first_to : ℕ → ℕ → Option Link
   first_to page cell = find (λ (other : Link). other.good && (other.back_page == page) && (other.back_cell == cell)) (links view)
 

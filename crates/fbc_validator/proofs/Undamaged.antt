@@ -20,7 +20,7 @@ use Rattle.fbc_spelling.proofs.Shows.{shown_code}
 use Rattle.fbc_reach.proofs.SameRoles.{same_role, has_role_from}
 use Rattle.fbc_reach.proofs.Reached.{AreSingle}
 
--- no page that is named breaks a rule
+-- No page that is named breaks a rule.
 abbrev pub AreUnbroken : Shape → List ℕ → View → Type 0
 AreUnbroken shape bytes view =
     (page : ℕ) → list_any (is_of_page page) (namings view) ≡ true → broken_page shape view page (page_bytes shape.size bytes page) ≡ None

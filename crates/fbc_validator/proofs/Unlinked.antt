@@ -3,12 +3,12 @@ use Rattle.std.proofs.Common.{◌≡◌, ℕ, zero, suc, ◌+◌, ◌<◌, Bool,
 use Rattle.std.proofs.lemmas.List.{append-nil, take_more, length-take-le}
 use Rattle.fbc_kinds.specs.Lost.{ComesBefore}
 use Rattle.fbc_validator.specs.Lost.{is_unlinked, unlinked_from}
-use Rattle.fbc_chains.specs.declared.chains.Chains.{Chains}
+use Rattle.fbc_links.specs.declared.chains.Chains.{Chains}
 use Rattle.fbc_reach.specs.declared.content.Version.{Version}
 use Rattle.fbc_reach.proofs.Members.{In}
 use Rattle.fbc_validator.proofs.Rising.{Rises}
 
--- a cell of the list is the place of such a version
+-- A cell of the list is the place of such a version.
 pub record IsUnlinked (chains : Chains) (page first : ℕ) (versions : List Version) (x : ℕ × ℕ) : Type 0 where
   pub at : ℕ
   pub version : Version
@@ -17,7 +17,7 @@ pub record IsUnlinked (chains : Chains) (page first : ℕ) (versions : List Vers
   pub is : (page, first + at) ≡ x
 
 module _ (chains : Chains) (page : ℕ) where
-  -- the list from a place on, by the test of the version there
+  -- The list from a place on, by the test of the version there.
   abbrev from : ℕ → Bool → List Version → List (ℕ × ℕ)
   from first b versions = if b then (page, first) ∷ unlinked_from chains page (suc first) versions else unlinked_from chains page (suc first) versions
 
@@ -95,7 +95,7 @@ module _ (chains : Chains) (page : ℕ) where
       go true below = ap (λ rest. (page, first) ∷ rest) below
       go false below = below
 
-  -- with one version more
+  -- With one version more.
   unlinked_more : (before now : List (ℕ × ℕ)) (versions : List Version) (i : ℕ) (d : Version) → i < length versions
       → now ≡ before ++ unlinked_from chains page 0 (take i versions)
       → now ++ unlinked_from chains page i (get_or versions i d ∷ []) ≡ before ++ unlinked_from chains page 0 (take (i + 1) versions)

@@ -9,7 +9,7 @@ use Rattle.fbc_kinds.specs.Head.{or_else}
 use Rattle.fbc_kinds.specs.Spelling.{first_broken_rule}
 use Rattle.fbc_kinds.specs.File.{page_bytes}
 use Rattle.fbc_kinds.specs.View.{View, size_of, next_of, is_taken}
-use Rattle.fbc_chains.specs.Links.{breaks_below, breaks_chain}
+use Rattle.fbc_links.specs.Links.{breaks_below, breaks_chain}
 use Rattle.fbc_reach.specs.Roles.{kind_code, has_other_relation, has_other_sequence, is_late_in}
 use Rattle.fbc_reach.specs.Walk.{namings, is_of_page, is_in_role}
 use Rattle.fbc_reach.specs.declared.namings.Role.{Role}

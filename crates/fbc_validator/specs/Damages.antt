@@ -5,10 +5,10 @@ use Rattle.fbc_kinds.specs.declared.pages.Header.{Header}
 use Rattle.fbc_kinds.specs.declared.rules.Rule.{Rule}
 use Rattle.fbc_kinds.specs.declared.rules.Rule.TheVariants as rule
 use Rattle.fbc_kinds.specs.Head.{or_else}
-use Rattle.fbc_chains.specs.Chains.{has_below, has_fault}
+use Rattle.fbc_links.specs.Chains.{has_below, has_fault}
 use Rattle.fbc_validator.specs.Damage.{broken_if}
 use Rattle.fbc_validator.specs.Marks.{is_taken_by}
-use Rattle.fbc_chains.specs.declared.chains.Chains.{Chains}
+use Rattle.fbc_links.specs.declared.chains.Chains.{Chains}
 use Rattle.fbc_reach.specs.declared.tally.NamedPage.{NamedPage}
 use Rattle.fbc_reach.specs.declared.tally.Tally.{Tally}
 

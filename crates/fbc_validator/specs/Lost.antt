@@ -3,19 +3,15 @@ use Rattle.std.specs.Prelude.{ℕ, suc, ◌^◌, Bool, ◌&&◌, not, nat_eq, if
 use Rattle.indexmap.specs.IndexMap.{get}
 use Rattle.fbc_kinds.specs.View.{is_back}
 use Rattle.fbc_kinds.specs.declared.pages.Header.{Header}
-use Rattle.fbc_chains.specs.Chains.{is_linked}
+use Rattle.fbc_links.specs.Chains.{is_linked}
 use Rattle.fbc_validator.specs.Marks.{is_taken_by}
-use Rattle.fbc_chains.specs.declared.chains.Chains.{Chains}
+use Rattle.fbc_links.specs.declared.chains.Chains.{Chains}
 use Rattle.fbc_reach.specs.declared.content.Content.{Content}
 use Rattle.fbc_reach.specs.declared.content.Content.TheVariants as content
 use Rattle.fbc_reach.specs.declared.content.Version.{Version}
 use Rattle.fbc_reach.specs.declared.tally.NamedPage.{NamedPage}
 use Rattle.fbc_reach.specs.declared.tally.Tally.{Tally}
-
--- What was kept of a data page's cells; no other page has any.
-abbrev pub versions_of : Content → List Version
-versions_of (content.Data relation sequence versions) = versions
-versions_of _ = []
+use Rattle.fbc_links.specs.Versions.{versions_of}
 
 abbrev pub versions_kept : Option NamedPage → List Version
 versions_kept None = []

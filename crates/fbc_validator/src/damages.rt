@@ -8,15 +8,15 @@ ghost use Rattle.fbc_kinds.specs.HeaderSpelling.{IsHeader};
 ghost use Rattle.fbc_kinds.specs.Limits.{IsPageSize};
 ghost use Rattle.fbc_kinds.specs.View.{View, header_of};
 ghost use Rattle.fbc_kinds.specs.declared.shapes.Shape.{Shape};
-ghost use Rattle.fbc_chains.specs.Chains.{AreChainsOf};
+ghost use Rattle.fbc_links.specs.Chains.{AreChainsOf};
 ghost use Rattle.fbc_validator.specs.Damage.{AreDamages};
 ghost use Rattle.fbc_validator.specs.Damages.{broken_alone_in, broken_in, broken_in_place_in, damage_in};
 ghost use Rattle.fbc_reach.specs.Tally.{IsTallyOf};
 ghost use Rattle.fbc_reach.specs.Walk.{namings};
 
 use crate::marks::is_taken;
-use fbc_chains::Chains;
 use fbc_kinds::{Header, Listed, Rule};
+use fbc_links::Chains;
 use fbc_reach::{NamedPage, Tally};
 use std::alloc::{AllocError, Global};
 

@@ -10,15 +10,15 @@ ghost use Rattle.fbc_kinds.specs.Lost.{ComesBefore, IsLostCell, IsLostPage, IsLo
 ghost use Rattle.fbc_kinds.specs.Sound.{IsSound};
 ghost use Rattle.fbc_kinds.specs.View.{View, header_of};
 ghost use Rattle.fbc_kinds.specs.declared.shapes.Shape.{Shape};
-ghost use Rattle.fbc_chains.specs.Chains.{AreChainsOf};
+ghost use Rattle.fbc_links.specs.Chains.{AreChainsOf};
 ghost use Rattle.fbc_validator.specs.Lost.{cell_limit, is_lost_by, is_unlinked, unlinked_from, unlinked_in};
 ghost use Rattle.fbc_reach.specs.Tally.{IsTallyOf};
 ghost use Rattle.fbc_reach.specs.Walk.{data_namings, is_of_page, namings};
 ghost use Rattle.fbc_reach.specs.declared.namings.Naming.{Naming};
 
 use crate::marks::is_taken;
-use fbc_chains::Chains;
 use fbc_kinds::{Flag, Header, Listed};
+use fbc_links::Chains;
 use fbc_reach::{Content, Naming, Tally, Version};
 use std::alloc::{AllocError, Global};
 

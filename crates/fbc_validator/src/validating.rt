@@ -2,11 +2,12 @@
 
 ghost use Rattle.std.specs.Prelude.{◌≡◌, ◌≤◌, ◌/◌, ◌^◌, ◌⊎◌, ℕ, List, [], ◌∷◌, Some, Err, IfOk, IfErr, length};
 ghost use Rattle.fbc_kinds.specs.File.{IsViewOf};
-ghost use Rattle.fbc_kinds.specs.HeaderSpelling.{IsHeader, IsShape};
+ghost use Rattle.fbc_kinds.specs.HeaderSpelling.{IsHeader, IsFileShape};
 ghost use Rattle.fbc_kinds.specs.Limits.{IsPageSize};
 ghost use Rattle.fbc_kinds.specs.View.{View, header_of};
+ghost use Rattle.fbc_kinds.specs.declared.rules.Rule.{Rule};
 ghost use Rattle.fbc_kinds.specs.declared.shapes.Shape.{Shape};
-ghost use Rattle.fbc_outside.specs.Faults.{Rose};
+ghost use Rattle.fbc_outside.specs.Faults.{Rose, bump};
 ghost use Rattle.fbc_validator.specs.Checked.{AreFindings, HasFound, WhyNotChecked};
 ghost use Rattle.fbc_reach.specs.Content.{IsReadOf};
 ghost use Rattle.fbc_reach.specs.Tally.{IsTallyOf};
@@ -17,12 +18,13 @@ use crate::faults::ValidateFault;
 use crate::findings::Findings;
 use crate::laws::sound_without_damage;
 use crate::lost::lost_space;
-use fbc_chains::follow;
-use fbc_files::{OpenFault, open};
+use fbc_files::{OpenFault, open, recognised_header};
 use fbc_kinds::{Header, Listed, PageFault, Rule, Shape};
+use fbc_links::follow;
 use fbc_outside::Device;
 use fbc_pages::decode_header;
 use fbc_reach::{PageRead, Visited, content_shown, read_bytes, walk};
+use fbc_spelling::bytes_give_one_view;
 use std::alloc::{AllocError, Global};
 
 /// Checks the file on the device: its damages, and where it has none its lost space. It opens the
@@ -37,12 +39,15 @@ pub fn validate<D: Device>(alloc: Global, device: &mut D) -> Result<Findings, Va
     ensures found { IfOk result (HasFound (D.reach device.old) (D.bytes device.old)) }
     ensures refused { IfErr result (λ fault. WhyNotChecked fault (D.bytes device.old)) }
     ensures bytes { D.bytes device.new ≡ D.bytes device.old }
+    ensures refused_read { (rule : Rule) → result ≡ Err (ValidateFault.NotOurs rule) → D.reads device.new ≡ bump (D.reads device.old) }
     ensures writes { D.writes device.new ≡ D.writes device.old }
     ensures landings { D.landings device.new ≡ D.landings device.old }
     ensures reach { D.reach device.new ≡ D.reach device.old }
     ensures later { D.faults device.old ≤ D.faults device.new }
     ensures fault { result ≡ Err ValidateFault.DeviceFault → Rose (D.faults device.old) (D.faults device.new) }
 {
+    recognised_header();
+    bytes_give_one_view();
     let opened = match open(device) {
         Ok(opened) => opened,
         Err(OpenFault::NotOurs(rule)) => return Err(ValidateFault::NotOurs(rule)),
@@ -68,7 +73,7 @@ fn check_file<D: Device>(
     shape: &Shape,
     pages: u32,
 ) -> Result<Findings, ValidateFault>
-    requires { IsShape shape.now }
+    requires { IsFileShape shape.now }
     ensures found { IfOk result (λ found. (bytes : List ℕ) (view : View)
         → D.bytes device.old ≡ Some bytes
         → IsViewOf shape.now bytes view
@@ -102,7 +107,7 @@ fn check_pages<D: Device>(
     first: PageRead,
     pages: u32,
 ) -> Result<Findings, ValidateFault>
-    requires shape { IsShape shape.now }
+    requires shape { IsFileShape shape.now }
     requires header { IsHeader header.now.size header.now }
     requires size { header.now.size ≡ shape.now.size }
     requires first { IsReadOf shape.now 0 (D.bytes device.old) first }

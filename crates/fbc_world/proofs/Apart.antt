@@ -23,14 +23,14 @@ use Rattle.fbc_world.specs.Locks.{asked, locks_of, locks_step, lowered_to, unles
 abbrev pub IsApart : LockState → Type 0
 IsApart s = AllPairs AreApart s.requests
 
--- nothing is asked of single requests
+-- Nothing is asked of single requests.
 abbrev Any : Request → Type 0
 Any r = Unit {0}
 
 any : (rs : List Request) → All Any rs
 any rs k d within = tt
 
--- one request at most is found under a key
+-- One request at most is found under a key.
 pub once : (owner : ℕ) (resource : Resource) (rs : List Request) → AllPairs AreApart rs → AllPairs (NotBoth (is_of owner resource)) rs
 once owner resource rs apart i j d below within a b =
     apart i j d below within
@@ -40,7 +40,7 @@ once owner resource rs apart i j d below within a b =
 apart_nothing : AllPairs AreApart []
 apart_nothing i j d below within = grind (arith)
 
--- the changes
+-- The changes.
 apart_map : (f : Request → Request) → ((r t : Request) → AreApart r t → AreApart (f r) (f t)) → (rs : List Request) → AllPairs AreApart rs → AllPairs AreApart (map f rs)
 apart_map f keeps rs apart = AllPairs-map AreApart AreApart Any f (λ r t _ _ h. keeps r t h) rs (any rs) apart
 

@@ -1,4 +1,4 @@
--- a draft that is dropped is not there
+-- A draft that is dropped is not there.
 use Rattle.std.proofs.Common.{◌≡◌, ◌==◌, ℕ, Bool, true, false, Option, Some, None, if◌then◌else◌, refl, arith}
 use Rattle.std.specs.Option.{option_map}
 use Rattle.std.proofs.lemmas.Bool.Decides.{nat_tests}
@@ -14,7 +14,7 @@ pub without-owner : (owner : ℕ) (draft : Option Draft) → option_map (λ (d :
 without-owner owner None h = cc
 without-owner owner (Some draft) h = kept_other owner draft (draft.owner == owner) refl h
 
--- a draft has one owner
+-- A draft has one owner.
 pub one-owner : (draft : Option Draft) (owner other : ℕ) → is_draft_of owner draft ≡ true → is_draft_of other draft ≡ true → owner ≡ other
 one-owner None owner other h k = absurd cc
 one-owner (Some draft) owner other h k = grind (arith, nat_tests, h, k)

@@ -6,7 +6,7 @@ use Rattle.std.proofs.lemmas.List.Elements.{All-head, All-tail}
 use Rattle.fbc_lock_table.proofs.Pairs.{NotBoth, AllPairs-head, AllPairs-tail}
 
 module _ {X : Type 0} (p : X → Bool) where
-  -- what is found passes
+  -- What is found passes.
   pub find_passes : (xs : List X) (x : X) → find p xs ≡ Some x → p x ≡ true
   find_passes [] x found = absurd cc
   find_passes (y ∷ ys) x found = go (p y) refl (find_passes ys x) found where
@@ -14,17 +14,17 @@ module _ {X : Type 0} (p : X → Bool) where
     go true passes later is = grind (arith, passes, is)
     go false passes later is = later is
 
-  -- a change that the test does not see
+  -- A change that the test does not see.
   pub find_map : (f : X → X) → ((x : X) → p (f x) ≡ p x) → (xs : List X) → find p (map f xs) ≡ option_map f (find p xs)
   find_map f same [] = refl
   find_map f same (x ∷ xs) = grind (arith, same x, find_map f same xs)
 
-  -- all that pass stay
+  -- All that pass stay.
   pub find_filter-all : (q : X → Bool) → ((x : X) → p x ≡ true → q x ≡ true) → (xs : List X) → find p (filter q xs) ≡ find p xs
   find_filter-all q stay [] = refl
   find_filter-all q stay (x ∷ xs) = grind (arith, stay x, find_filter-all q stay xs)
 
-  -- none that passes stays
+  -- None that passes stays.
   pub find_filter-none : (q : X → Bool) → ((x : X) → p x ≡ true → q x ≡ false) → (xs : List X) → find p (filter q xs) ≡ None
   find_filter-none q go [] = refl
   find_filter-none q go (x ∷ xs) = grind (arith, go x, find_filter-none q go xs)
@@ -33,7 +33,7 @@ module _ {X : Type 0} (p : X → Bool) where
   none_passes q [] none = refl
   none_passes q (x ∷ xs) none = grind (arith, All-head (λ y. p y ≡ false) x xs none, none_passes q xs (All-tail (λ y. p y ≡ false) x xs none))
 
-  -- at most one passes: it is found where it stays
+  -- At most one passes: it is found where it stays.
   abbrev StaysOnly : (X → Bool) → List X → Type 0
   StaysOnly q xs = find p (filter q xs) ≡ option_and_then (λ x. if q x then Some x else None) (find p xs)
 

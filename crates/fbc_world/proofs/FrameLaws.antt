@@ -1,4 +1,4 @@
--- what one owner does, and what it leaves of another's
+-- What one owner does, and what it leaves of another's.
 use Rattle.std.proofs.Common.{◌≡◌, ◌≢◌, ◌==◌, ◌∙◌, ◌++◌, ◌∷◌, [], refl, ℕ, Bool, true, false, not, List, if◌then◌else◌, arith}
 use Rattle.std.specs.Prelude.{filter, is_some, map}
 use Rattle.std.proofs.lemmas.Bool.Decides.{nat_tests}
@@ -19,7 +19,7 @@ use Rattle.fbc_world.specs.Frames.{is_purge_of, requests_of}
 use Rattle.fbc_world.specs.Locks.{asked, locks_step, with_grant}
 
 module _ (owner other : ℕ) (apart : owner ≢ other) where
-  -- a change of the owner's requests alone changes none of the other's
+  -- A change of the owner's requests alone changes none of the other's.
   own-map : (f : Request → Request) → ((x : Request) → (f x).owner ≡ x.owner) → ((x : Request) → x.owner ≢ owner → f x ≡ x)
       → (rs : List Request) → filter (λ (r : Request). r.owner == other) (map f rs) ≡ filter (λ (r : Request). r.owner == other) rs
   own-map f owners others [] = refl

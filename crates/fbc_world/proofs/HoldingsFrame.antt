@@ -1,4 +1,4 @@
--- what one owner holds after an act of another that spares it
+-- What one owner holds after an act of another that spares it.
 use Rattle.std.proofs.Common.{◌≡◌, ◌≢◌, ◌==◌, ◌∙◌, ap, sym, refl, ℕ, Bool, true, false, Option, Some, None, if◌then◌else◌, length, arith}
 use Rattle.std.specs.Prelude.{filter}
 use Rattle.std.specs.List.{find}
@@ -13,7 +13,8 @@ use Rattle.fbc_world.specs.declared.events.Act.{Act}
 use Rattle.fbc_world.specs.declared.events.Act.TheVariants.{Die, Local, Write}
 use Rattle.fbc_world.specs.declared.events.LocalEvent.TheVariants as local
 use Rattle.fbc_world.specs.Frames.{Spares, is_edit_of, is_landing_of, requests_of}
-use Rattle.fbc_world.specs.Holdings.{holdings_of, is_draft_of, is_page_request_of, page_resource, want_of}
+use Rattle.fbc_world.specs.Holdings.{holdings_of, is_draft_of, is_page_request_of, want_of}
+use Rattle.fbc_levels.specs.Resources.{page_resource}
 use Rattle.fbc_world.specs.PageCell.{draft_step, drafted, without}
 use Rattle.fbc_world.specs.World.{World, acted}
 use Rattle.fbc_world.specs.WriteOrder.{pair_step}
@@ -21,7 +22,7 @@ use Rattle.fbc_world.proofs.FirstOf.{filter-kept, find-kept}
 use Rattle.fbc_world.proofs.WorldFrame.{buffers-frame, copy-frame, granted-frame, own-requests-frame, pin-frame}
 use Rattle.fbc_world.proofs.WorldSteps.{draft-acted, pairs-acted}
 
--- what an owner waits for, and how many pages it asked for, its own requests tell
+-- What an owner waits for, and how many pages it asked for, its own requests tell.
 own-wait : (s : LockState) (owner : ℕ) → find (is_wait_of owner) (requests_of s owner) ≡ wait_of s owner
 own-wait s owner = find-kept (is_wait_of owner) (λ (r : Request). r.owner == owner) (λ x is. grind (arith, is)) s.requests
 

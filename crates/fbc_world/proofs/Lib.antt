@@ -1,6 +1,3 @@
-mod OutlineLaws
-mod SketchLaws
-mod PairLaws
 mod DraftLaws
 pub mod WorldSteps
 pub mod WorldLaws

@@ -14,15 +14,15 @@ use Rattle.fbc_lock_table.specs.Effects.{entered, is_bare_wait_of, new_request, 
 use Rattle.fbc_lock_table.proofs.Pairs.{NotBoth}
 use Rattle.fbc_world.proofs.Found.{find_filter-all, find_filter-none, find_filter-once, find_map, find_passes}
 
--- whether both the owners and the resources are the same
+-- Whether both the owners and the resources are the same.
 abbrev pub is_key : ℕ → Resource → ℕ → Resource → Bool
 is_key o r owner resource = (o == owner) && is_same_resource r resource
 
--- an owner's request for a resource is one for another key where that is the same
+-- An owner's request for a resource is one for another key where that is the same.
 pub same_key : (owner : ℕ) (resource : Resource) (o : ℕ) (r : Resource) (x : Request) → is_of owner resource x ≡ true → is_of o r x ≡ is_key o r owner resource
 same_key owner resource o r x is = grind (arith, nat_tests, is)
 
--- what is found under a key is found under one that is the same
+-- What is found under a key is found under one that is the same.
 same_find : (owner : ℕ) (resource : Resource) (o : ℕ) (r : Resource) → is_key o r owner resource ≡ true → (x : Request) → is_of owner resource x ≡ is_of o r x
 same_find owner resource o r is x = grind (arith, nat_tests, is)
 
@@ -30,7 +30,7 @@ find-same : (p q : Request → Bool) → ((x : Request) → p x ≡ q x) → (rs
 find-same p q same [] = refl
 find-same p q same (x ∷ rs) = grind (arith, same x, find-same p q same rs)
 
--- the level of a request, if there is one
+-- The level of a request, if there is one.
 abbrev pub level_in : Option Request → Level
 level_in found = option_map_or (λ (r : Request). r.granted) found Free
 
@@ -42,7 +42,7 @@ module _ (owner : ℕ) (resource : Resource) where
   abbrev level : List Request → Level
   level rs = level_in (find (is_of owner resource) rs)
 
-  -- what is found among requests with one more
+  -- What is found among requests with one more.
   pub find_entered : (rs : List Request) (o : ℕ) (r : Resource) (word : ℕ)
       → find (is_of owner resource) (entered rs o r word) ≡ option_or (find (is_of owner resource) rs) (if is_key o r owner resource then Some (new_request o r word) else None)
   find_entered rs o r word = go (find (is_of o r) rs) refl (is_key o r owner resource) refl where
@@ -52,7 +52,7 @@ module _ (owner : ℕ) (resource : Resource) where
     go (Some x) is true key = grind (arith, find-same (is_of owner resource) (is_of o r) (same_find owner resource o r key) rs, is)
     go (Some x) is false key = sym (or_none (find (is_of owner resource) rs))
 
-  -- a new request has no level yet
+  -- A new request has no level yet.
   pub level-entered : (rs : List Request) (o : ℕ) (r : Resource) (word : ℕ) → level (entered rs o r word) ≡ level rs
   level-entered rs o r word = ap level_in (find_entered rs o r word) ∙ go (find (is_of owner resource) rs) (is_key o r owner resource) where
     go : (found : Option Request) (b : Bool) → level_in (option_or found (if b then Some (new_request o r word) else None)) ≡ level_in found
@@ -60,7 +60,7 @@ module _ (owner : ℕ) (resource : Resource) where
     go None false = refl
     go (Some x) b = refl
 
-  -- a change that leaves levels
+  -- A change that leaves levels.
   pub level-map : (f : Request → Request) → ((x : Request) → is_of owner resource (f x) ≡ is_of owner resource x) → ((x : Request) → (f x).granted ≡ x.granted)
       → (rs : List Request) → level (map f rs) ≡ level rs
   level-map f same keeps rs = ap level_in (find_map (is_of owner resource) f same rs) ∙ go (find (is_of owner resource) rs) where
@@ -68,7 +68,7 @@ module _ (owner : ℕ) (resource : Resource) where
     go None = refl
     go (Some x) = keeps x
 
-  -- a change of one owner's level for one resource, by which a request is entered where there was none
+  -- A change of one owner's level for one resource, by which a request is entered where there was none.
   pub level-set : (o : ℕ) (r : Resource) (word : ℕ) (new : Level) (f : Request → Request) → ((x : Request) → is_of owner resource (f x) ≡ is_of owner resource x)
       → ((x : Request) → (f x).granted ≡ (if is_of o r x then new else x.granted))
       → (rs : List Request) → level (map f (entered rs o r word)) ≡ (if is_key o r owner resource then new else level rs)
@@ -84,7 +84,7 @@ module _ (owner : ℕ) (resource : Resource) where
         go None is false key = refl
         go (Some x) is b key = grind (arith, sets x, same_key owner resource o r x (find_passes (is_of owner resource) rs x is), key)
 
-  -- one owner's request for one resource is taken out
+  -- One owner's request for one resource is taken out.
   pub level-without : (o : ℕ) (r : Resource) (rs : List Request) → level (filter (λ x. not (is_of o r x)) rs) ≡ (if is_key o r owner resource then Free else level rs)
   level-without o r rs = go (is_key o r owner resource) refl where
     out : (x : Request) (b : Bool) → is_key o r owner resource ≡ b → is_of owner resource x ≡ true → not (is_of o r x) ≡ not b
@@ -94,7 +94,7 @@ module _ (owner : ℕ) (resource : Resource) where
     go true key = ap level_in (find_filter-none (is_of owner resource) (λ x. not (is_of o r x)) (λ x. out x true key) rs)
     go false key = ap level_in (find_filter-all (is_of owner resource) (λ x. not (is_of o r x)) (λ x. out x false key) rs)
 
-  -- one owner's requests are taken out
+  -- One owner's requests are taken out.
   pub level-without_owner : (o : ℕ) (rs : List Request) → level (filter (λ x. not (x.owner == o)) rs) ≡ (if o == owner then Free else level rs)
   level-without_owner o rs = go (o == owner) refl where
     out : (x : Request) (b : Bool) → o == owner ≡ b → is_of owner resource x ≡ true → not (x.owner == o) ≡ not b
@@ -104,7 +104,7 @@ module _ (owner : ℕ) (resource : Resource) where
     go true key = ap level_in (find_filter-none (is_of owner resource) (λ x. not (x.owner == o)) (λ x. out x true key) rs)
     go false key = ap level_in (find_filter-all (is_of owner resource) (λ x. not (x.owner == o)) (λ x. out x false key) rs)
 
-  -- requests by which an owner waits with no level yet are taken out
+  -- Requests by which an owner waits with no level yet are taken out.
   pub level-without_bare : (o : ℕ) (rs : List Request) → AllPairs (NotBoth (is_of owner resource)) rs → level (filter (λ x. not (is_bare_wait_of o x)) rs) ≡ level rs
   level-without_bare o rs once = ap level_in (find_filter-once (is_of owner resource) (λ x. not (is_bare_wait_of o x)) rs once) ∙ go (find (is_of owner resource) rs) where
     go : (found : Option Request) → level_in (option_and_then (λ x. if not (is_bare_wait_of o x) then Some x else None) found) ≡ level_in found

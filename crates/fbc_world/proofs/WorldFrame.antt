@@ -1,4 +1,4 @@
--- what stands for one owner after an act of another
+-- What stands for one owner after an act of another.
 use Rattle.std.proofs.Common.{◌≡◌, ◌≢◌, ◌∙◌, ap, refl, ℕ, Bool, true, false, Option, Some, arith}
 use Rattle.std.proofs.lemmas.Bool.Decides.{nat_tests}
 use Rattle.fbc_kinds.specs.declared.shapes.Shape.{Shape}
@@ -15,7 +15,7 @@ use Rattle.fbc_world.specs.WriteOrder.{pair_step}
 use Rattle.fbc_world.proofs.FrameLaws.{requests-frame}
 use Rattle.fbc_world.proofs.WorldSteps.{alive-acted, copy-acted, draft-acted, granted-acted, locks-acted, pairs-acted}
 
--- a draft of another owner is not without its draft
+-- A draft of another owner is not without its draft.
 without-other : (owner : ℕ) (d : Draft) → owner ≢ d.owner → without owner (Some d) ≡ Some d
 without-other owner d apart = grind (arith, nat_tests, apart)
 

@@ -1,4 +1,4 @@
--- what stands after a history is what each part of it is by its own definition
+-- What stands after a history is what each part of it is by its own definition.
 use Rattle.std.proofs.Common.{◌≡◌, ◌==◌, ◌∙◌, ap, ℕ, Bool, [], ◌∷◌, Option, if◌then◌else◌, refl}
 use Rattle.fbc_kinds.specs.declared.pages.Page.{Page}
 use Rattle.fbc_kinds.specs.declared.shapes.Shape.{Shape}
@@ -13,7 +13,7 @@ use Rattle.fbc_world.specs.World.{World, newest_of, world_of}
 use Rattle.fbc_world.specs.WriteOrder.{pair_step, pairs_of}
 use Rattle.fbc_world.proofs.WorldSteps.{alive-acted, copy-acted, draft-acted, granted-acted, kept-acted, locks-acted, pairs-acted}
 
--- each part is what its own definition says
+-- Each part is what its own definition says.
 pub record IsReplayed (shape : Shape) (file : View) (history : History) (w : World) : Type 0 where
   pub kept_is : (page : ℕ) → w.kept page ≡ kept shape file history page
   pub draft_is : (page : ℕ) → w.draft page ≡ draft shape file history page

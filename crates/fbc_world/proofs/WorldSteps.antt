@@ -1,4 +1,4 @@
--- each part of what stands after an act is the step of that part
+-- Each part of what stands after an act is the step of that part.
 use Rattle.std.proofs.Common.{◌≡◌, ◌==◌, ℕ, Bool, true, false, Option, Some, None, if◌then◌else◌, refl, arith}
 use Rattle.std.proofs.lemmas.Bool.Decides.{nat_tests}
 use Rattle.fbc_kinds.specs.declared.shapes.Shape.{Shape}

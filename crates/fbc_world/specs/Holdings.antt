@@ -7,7 +7,7 @@ use Rattle.fbc_levels.specs.declared.resources.Request.{Request}
 use Rattle.fbc_levels.specs.declared.resources.Resource.{Resource}
 use Rattle.fbc_levels.specs.declared.resources.Series.TheVariants as series
 use Rattle.fbc_levels.specs.LockState.{wait_of}
-use Rattle.fbc_levels.specs.Resources.{is_same_series}
+use Rattle.fbc_levels.specs.Resources.{is_same_series, page_resource}
 use Rattle.fbc_world.specs.declared.drafts.Draft.{Draft}
 use Rattle.fbc_world.specs.World.{World}
 
@@ -34,10 +34,6 @@ pub record Holdings : Type 0 where
   pub count : ℕ
   -- For how many pages it has room.
   pub buffers : ℕ
-
--- The page of this number as what is locked.
-abbrev pub page_resource : ℕ → Resource
-page_resource page = record { series = series.Page; key = page }
 
 -- Whether it is a draft of this owner.
 abbrev pub is_draft_of : ℕ → Option Draft → Bool

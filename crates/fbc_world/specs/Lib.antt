@@ -1,8 +1,6 @@
 pub mod History
 pub mod PageCell
 pub mod Replay
-pub mod Outlines
-pub mod Sketches
 pub mod Owners
 pub mod WriteOrder
 pub mod Locks
@@ -10,4 +8,5 @@ pub mod World
 pub mod Holdings
 pub mod Commands
 pub mod Frames
+pub mod Others
 pub mod Example

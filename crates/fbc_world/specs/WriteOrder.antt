@@ -21,8 +21,3 @@ pairs_of (moment ∷ before) owner high low = pair_step owner high low (pairs_of
 -- Some owner has the pair.
 abbrev pub IsPair : History → ℕ → ℕ → Type 0
 IsPair history high low = (owner : ℕ) × (pairs_of history owner high low ≡ true)
-
--- Pairs of this relation lead from the first page to the second.
-pub data StandsBefore (Pairs : ℕ → ℕ → Type 0) : ℕ → ℕ → Type 0 where
-  straight : (high low : ℕ) → Pairs high low → StandsBefore Pairs high low
-  through : (high between low : ℕ) → Pairs high between → StandsBefore Pairs between low → StandsBefore Pairs high low

@@ -1,15 +1,14 @@
 //! The journal: the events of a file in the order in which they happened.
 
-ghost use Rattle.std.specs.Prelude.{◌≡◌, ◌↔◌, IsTrue, ◌^◌, ◌<◌, ◌≤◌, ◌+◌, ◌++◌, ◌∷◌, [], Some, IfOk, OnOk, OnErr, length, slice_get};
+ghost use Rattle.std.specs.Prelude.{◌≡◌, ◌^◌, ◌<◌, ◌≤◌, ◌+◌, ◌++◌, ◌∷◌, [], Some, IfOk, OnOk, OnErr, length, slice_get};
 ghost use Rattle.fbc_kinds.specs.Edits.{IsShape};
 ghost use Rattle.fbc_world.specs.History.{recorded};
-ghost use Rattle.fbc_world.specs.PageCell.{blank_file, draft_owner, kept, newest};
+ghost use Rattle.fbc_world.specs.PageCell.{blank_file, kept, newest};
 ghost use Rattle.fbc_world.specs.Owners.{granted, is_alive};
-ghost use Rattle.fbc_world.specs.WriteOrder.{IsPair};
 
 use crate::asks::Ask;
 use crate::events::{Act, Event, LocalEvent};
-use crate::{owners, pairs, replays, sketches};
+use crate::{owners, replays};
 use fbc_kinds::{Edit, Page, Reply, Shape};
 use fbc_levels::{Level, Resource};
 use std::alloc::{AllocError, Global};
@@ -83,6 +82,21 @@ impl Journal {
         self.events.push_reserved(event);
     }
 
+    /// The shape of the file.
+    pub fn shape(&self) -> &Shape
+        ensures shape { result.now ≡ self.now.shape }
+        ensures limits { IsShape result.now }
+    {
+        &self.shape
+    }
+
+    /// The events, in the order in which they happened.
+    pub fn events(&self) -> &[Event]
+        ensures { result.now ≡ self.now.events }
+    {
+        self.events.as_slice()
+    }
+
     /// How many events there are.
     pub fn length(&self) -> u64
         ensures length { result ≡ length self.now.events }
@@ -117,13 +131,6 @@ impl Journal {
         Ok(replay.into_newest())
     }
 
-    /// The owner of the page's draft, if there is one, replayed in the same way.
-    pub fn draft_owner(&self, page: u32) -> Option<u32>
-        ensures { result ≡ draft_owner self.now.shape blank_file (recorded self.now) page }
-    {
-        sketches::draft_owner(&self.shape, page, self.events.as_slice())
-    }
-
     /// The level that the owner is granted on the resource.
     pub fn granted(&self, owner: u32, resource: Resource) -> Level
         ensures { result ≡ granted (recorded self.now) owner resource }
@@ -136,12 +143,5 @@ impl Journal {
         ensures { result ≡ is_alive (recorded self.now) owner }
     {
         owners::is_alive(owner, self.events.as_slice())
-    }
-
-    /// Whether some owner has recorded that the page `high` is written before `low`, and that stands.
-    pub fn before(&self, high: u32, low: u32) -> bool
-        ensures { IsTrue result ↔ IsPair (recorded self.now) high low }
-    {
-        pairs::is_pair(high, low, self.events.as_slice())
     }
 }

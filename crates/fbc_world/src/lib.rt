@@ -1,5 +1,24 @@
-//! The vocabulary of histories: what the owners of one file ask, are answered and do, the journal of
-//! it, and what a journal tells by replay. What a history means stands in `specs/`.
+//! The vocabulary of histories: what the owners of one file ask, are answered and do, the journal of it, and
+//! what a journal tells by replay. What a history means stands in `specs/`.
+//!
+//! - **Proved** of `Journal`, which is its file's shape and the list of its events, the oldest first:
+//!   - `reserve` makes room, and without memory the events stay; `push` adds one event and takes no memory;
+//!     `length`, below 2^63, and `event` give each.
+//!   - `kept` and `newest` answer what the file keeps of a page and its newest content, over a file of blank
+//!     pages; `granted` and `alive` take no memory.
+//! - **Proved** of every history over every file, legal or not:
+//!   - A copy ends with the lock on its page and with its owner (`copies_end_with_their_locks`); a dead owner
+//!     has no draft (`drafts_end_with_their_owners`), and a page has one draft at most
+//!     (`pages_have_one_draft`).
+//!   - What one owner does changes nothing of another's: no copy, pin, open transaction or life; no draft,
+//!     unless it edits that page; no pair, unless it writes the high page; no request or level, unless it
+//!     reaps that owner or opens the file (`others_leave_ones_own`).
+//!   - The record of all that stands (`specs/World`) is in each part what that part's own definition says
+//!     (`worlds_are_replays`), and a granted level is that of its request (`requests_grant_levels`).
+//!   - The commands of one history are worked out as an example (`commands_of_the_example`).
+//! - **Supposed**: of a journal a page size that a file may have and at most eight relations (`IsShape`); of
+//!   `push` that there is room. For a journal an edit that does not fit changes nothing, and a failed write
+//!   has not landed.
 #![tactic(auto)]
 
 mod answers;
@@ -9,11 +28,8 @@ mod events;
 mod journals;
 mod laws;
 mod lock_laws;
-mod outlines;
 mod owners;
-mod pairs;
 mod replays;
-mod sketches;
 
 pub use answers::Answer;
 pub use asks::{Ask, Cause};
@@ -25,6 +41,3 @@ pub use laws::{
     others_leave_ones_own, pages_have_one_draft, worlds_are_replays,
 };
 pub use lock_laws::{requests_are_apart, requests_grant_levels};
-
-#[cfg(test)]
-mod tests;

@@ -8,7 +8,8 @@ ghost use Rattle.fbc_world.specs.Replay.{IsWithin};
 
 use crate::drafts::Draft;
 use crate::events::{Act, Event, LocalEvent};
-use fbc_kinds::{ApplyFault, Edit, Page, Shape, apply};
+use fbc_apply::{apply, copied};
+use fbc_kinds::{ApplyFault, Edit, Page, Shape};
 use std::alloc::{AllocError, Global};
 
 /// What is kept of a page, and its draft.
@@ -108,9 +109,10 @@ impl Replay {
         requires within { IsWithin shape.now self.old }
         ensures within { OnOk result (IsWithin shape.now self.new) }
         ensures kept { self.new.kept ≡ self.old.kept }
-        ensures draft { OnOk result (self.new.draft ≡ drafted owner self.old.draft (edited shape.now edit.now (page_for owner (Some self.old.kept) self.old.draft))) }
+        ensures draft { OnOk result (self.new.draft ≡ drafted owner self.old.draft
+            (edited shape.now edit.now (page_for owner (Some self.old.kept) self.old.draft))) }
     {
-        let mut content = self.page_for(shape, owner).copied(alloc)?;
+        let mut content = copied(alloc, self.page_for(shape, owner))?;
         match apply(alloc, shape, edit, &mut content) {
             Ok(()) => {
                 self.draft = Some(Draft { owner, content });

@@ -1,5 +1,5 @@
 use Rattle.fbc_world.specs.World.{IsPairIn}
-use Rattle.fbc_world.specs.WriteOrder.{straight}
+use Rattle.fbc_kinds.specs.Order.{straight}
 use Rattle.fbc_closed_cuts.proofs.Closing.{closed_way}
 use Rattle.fbc_closed_cuts.proofs.laws.pairs_close_cuts.Goals as goal
 

@@ -1,3 +1,4 @@
+use Rattle.fbc_console.proofs.CheckVerdicts.{sound_file, unsound_file}
 use Rattle.fbc_console.proofs.Completeness.{plays, makes, checks}
 use Rattle.fbc_console.proofs.top_call.console.Goals as goal
 
@@ -18,3 +19,13 @@ returns-clause-checks g c failed plain =
     checks (g.D.Device.reach c.args.device) c.args.words.now (g.S.Source.left c.args.script.now) (g.D.Device.bytes c.args.device) (g.D.Device.bytes c.run-status.new.device) (g.K.Sink.may_have c.args.out.now) (g.K.Sink.may_have c.run-status.new.out) c.run-status.result
     (λ is. failed.of_device (c.run-status.ensures.device_fault is)) (λ is. failed.of_source (c.run-status.ensures.source_fault is)) (λ is. failed.of_sink (c.run-status.ensures.sink_fault is)) (c.words_spell_one_command.ensures c.args.words.now) c.run-status.ensures.ended
     plain
+
+pub returns-clause-sound : goal.returns-clause-sound
+returns-clause-sound g c is spells =
+    sound_file (g.D.Device.reach c.args.device) c.args.words.now (g.S.Source.left c.args.script.now) (g.D.Device.bytes c.args.device) (g.D.Device.bytes c.run-status.new.device) (g.K.Sink.may_have c.args.out.now) (g.K.Sink.may_have c.run-status.new.out) c.run-status.result
+    (c.words_spell_one_command.ensures c.args.words.now) c.run-status.ensures.ended spells is
+
+pub returns-clause-unsound : goal.returns-clause-unsound
+returns-clause-unsound g c is spells =
+    unsound_file (g.D.Device.reach c.args.device) c.args.words.now (g.S.Source.left c.args.script.now) (g.D.Device.bytes c.args.device) (g.D.Device.bytes c.run-status.new.device) (g.K.Sink.may_have c.args.out.now) (g.K.Sink.may_have c.run-status.new.out) c.run-status.result
+    (c.words_spell_one_command.ensures c.args.words.now) c.run-status.ensures.ended spells is

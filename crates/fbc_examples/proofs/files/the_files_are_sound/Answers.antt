@@ -1,4 +1,4 @@
-use Rattle.fbc_examples.proofs.Starts.{start_empty, start_new, start_row, start_worn}
+use Rattle.fbc_examples.proofs.Starts.{start_empty, start_new, start_row, start_spread, start_stale, start_worn}
 use Rattle.fbc_examples.proofs.files.the_files_are_sound.Goals as goal
 
 pub returns-clause-new : goal.returns-clause-new
@@ -12,3 +12,9 @@ returns-clause-row c = start_row
 
 pub returns-clause-worn : goal.returns-clause-worn
 returns-clause-worn c = start_worn
+
+pub returns-clause-spread : goal.returns-clause-spread
+returns-clause-spread c = start_spread
+
+pub returns-clause-stale : goal.returns-clause-stale
+returns-clause-stale c = start_stale

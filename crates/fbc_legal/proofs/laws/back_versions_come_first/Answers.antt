@@ -1,4 +1,4 @@
-use Rattle.std.proofs.Common.{◌≡◌, ◌≢◌, ◌∙◌, ◌⊎◌, inl, inr, ℕ, Bool, true, Option, Some, None, refl, sym, ap, subst, arith}
+use Rattle.std.proofs.Common.{◌≡◌, ◌≢◌, ◌∙◌, ◌⊎◌, inl, inr, ℕ, true, Option, Some, None, sym, ap, subst, arith}
 use Rattle.std.specs.Option.{IsSomeAnd, option_map}
 use Rattle.std.proofs.lemmas.Bool.Decides.{nat_tests}
 use Rattle.fbc_kinds.specs.declared.pages.Cell.{Cell}
@@ -7,7 +7,6 @@ use Rattle.fbc_kinds.specs.declared.pages.Page.TheVariants as kind
 use Rattle.fbc_kinds.specs.View.{cell_in, is_back}
 use Rattle.fbc_world.specs.declared.drafts.Draft.{Draft}
 use Rattle.fbc_world.specs.Holdings.{is_draft_of}
-use Rattle.fbc_world.specs.PageCell.{draft, draft_owner, kept}
 use Rattle.fbc_world.specs.World.{world_of}
 use Rattle.fbc_world.proofs.WorldLaws.{IsReplayed-world}
 use Rattle.fbc_legal.specs.Facts.{HoldsBack}

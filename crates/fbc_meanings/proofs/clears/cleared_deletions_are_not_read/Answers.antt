@@ -2,10 +2,10 @@ use Rattle.std.proofs.Common.{refl, ap}
 use Rattle.fbc_kinds.specs.Chain.{below, value_of, version_of, versions_from}
 use Rattle.fbc_kinds.specs.DataSpelling.{empty_cell}
 use Rattle.fbc_kinds.specs.View.{is_top}
-use Rattle.fbc_views.specs.Edited.{with_page}
-use Rattle.fbc_rows.proofs.Flags.{back_of_top, unlinked}
-use Rattle.fbc_rows.proofs.Frames.{chain_of_none, chain_of_top, other_chains, row_after_stands, row_before_stands}
-use Rattle.fbc_rows.proofs.OneCell.{next_same, one_cell_cleared, state_same}
+use Rattle.fbc_page_edits.specs.Edited.{with_page}
+use Rattle.fbc_version_edits.proofs.Flags.{back_of_top, unlinked}
+use Rattle.fbc_version_edits.proofs.Frames.{chain_of_none, chain_of_top, other_chains, row_after_stands, row_before_stands}
+use Rattle.fbc_version_edits.proofs.OneCell.{next_same, one_cell_cleared, state_same}
 use Rattle.fbc_meanings.proofs.RowsGone.{deleted_row}
 use Rattle.fbc_meanings.proofs.RowsKept.{one_row, rows_read}
 use Rattle.fbc_meanings.proofs.clears.cleared_deletions_are_not_read.Goals as goal

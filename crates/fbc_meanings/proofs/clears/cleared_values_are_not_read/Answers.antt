@@ -1,8 +1,8 @@
 use Rattle.std.proofs.Common.{refl}
-use Rattle.fbc_views.specs.Edited.{with_page}
-use Rattle.fbc_rows.proofs.Flags.{top_of_back}
-use Rattle.fbc_rows.proofs.Frames.{same_chains}
-use Rattle.fbc_rows.proofs.OneCell.{next_same, one_cell_cleared, state_same}
+use Rattle.fbc_page_edits.specs.Edited.{with_page}
+use Rattle.fbc_version_edits.proofs.Flags.{top_of_back}
+use Rattle.fbc_version_edits.proofs.Frames.{same_chains}
+use Rattle.fbc_version_edits.proofs.OneCell.{next_same, one_cell_cleared, state_same}
 use Rattle.fbc_meanings.proofs.SameViews.{same_reads}
 use Rattle.fbc_meanings.proofs.clears.cleared_values_are_not_read.Goals as goal
 

@@ -1,10 +1,10 @@
 use Rattle.std.proofs.Common.{◌∙◌, ◌∷◌, refl, sym, ap}
 use Rattle.fbc_kinds.specs.Chain.{version_of}
 use Rattle.fbc_kinds.specs.DataSpelling.{empty_cell}
-use Rattle.fbc_views.specs.Edited.{with_page}
-use Rattle.fbc_rows.proofs.Flags.{back_of_top, unlinked}
-use Rattle.fbc_rows.proofs.Frames.{chain_of_lone, chain_of_none, other_chains, row_after_stands, row_before_stands}
-use Rattle.fbc_rows.proofs.OneCell.{next_same, one_cell_cleared, state_same}
+use Rattle.fbc_page_edits.specs.Edited.{with_page}
+use Rattle.fbc_version_edits.proofs.Flags.{back_of_top, unlinked}
+use Rattle.fbc_version_edits.proofs.Frames.{chain_of_lone, chain_of_none, other_chains, row_after_stands, row_before_stands}
+use Rattle.fbc_version_edits.proofs.OneCell.{next_same, one_cell_cleared, state_same}
 use Rattle.fbc_meanings.proofs.RowsGone.{gone_row}
 use Rattle.fbc_meanings.proofs.RowsKept.{one_row, rows_read}
 use Rattle.fbc_meanings.proofs.clears.cleared_versions_are_not_read.Goals as goal

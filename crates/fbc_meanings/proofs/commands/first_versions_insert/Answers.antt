@@ -10,15 +10,15 @@ use Rattle.fbc_runs.specs.Orderly.{OwnersDiffer}
 use Rattle.fbc_runs.specs.Reading.{ReadsAs}
 use Rattle.fbc_runs.proofs.ChangesCome.{insertion_comes}
 use Rattle.fbc_runs.proofs.ChangesRead.{put_reads}
-use Rattle.fbc_views.specs.Edited.{with_page}
-use Rattle.fbc_rows.proofs.ChainNumbers.{chain_begun}
-use Rattle.fbc_rows.proofs.Changes.{insertion, put_above}
-use Rattle.fbc_rows.proofs.Flags.{top_of_empty}
-use Rattle.fbc_rows.proofs.Frames.{chain_of_lone, chain_of_none, other_chains, row_after_stands, row_before_stands}
-use Rattle.fbc_rows.proofs.InFront.{put_by}
-use Rattle.fbc_rows.proofs.Living.{open_transaction_is}
-use Rattle.fbc_rows.proofs.NoLinkForms.{first_unlinked}
-use Rattle.fbc_rows.proofs.OneCell.{next_same, one_cell_put, state_same}
+use Rattle.fbc_page_edits.specs.Edited.{with_page}
+use Rattle.fbc_version_edits.proofs.ChainNumbers.{chain_begun}
+use Rattle.fbc_version_edits.proofs.Changes.{insertion, put_above}
+use Rattle.fbc_version_edits.proofs.Flags.{top_of_empty}
+use Rattle.fbc_version_edits.proofs.Frames.{chain_of_lone, chain_of_none, other_chains, row_after_stands, row_before_stands}
+use Rattle.fbc_version_edits.proofs.InFront.{put_by}
+use Rattle.fbc_version_edits.proofs.Living.{open_transaction_is}
+use Rattle.fbc_version_edits.proofs.NoLinkForms.{first_unlinked}
+use Rattle.fbc_version_edits.proofs.OneCell.{next_same, one_cell_put, state_same}
 use Rattle.fbc_meanings.proofs.DoneBeside.{answered_too}
 use Rattle.fbc_meanings.proofs.Steps.{step_reads, version_leaves}
 use Rattle.fbc_meanings.proofs.commands.first_versions_insert.Goals as goal

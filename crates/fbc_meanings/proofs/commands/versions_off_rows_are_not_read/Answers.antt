@@ -1,8 +1,8 @@
-use Rattle.fbc_views.specs.Edited.{with_page}
-use Rattle.fbc_rows.proofs.Frames.{other_chains}
-use Rattle.fbc_rows.proofs.NoLinkForms.{first_unlinked, own_unlinked}
-use Rattle.fbc_rows.proofs.OneCell.{next_same, one_cell_put, state_same}
-use Rattle.fbc_rows.proofs.Over.{over_unlinked, own_relation}
+use Rattle.fbc_page_edits.specs.Edited.{with_page}
+use Rattle.fbc_version_edits.proofs.Frames.{other_chains}
+use Rattle.fbc_version_edits.proofs.NoLinkForms.{first_unlinked, own_unlinked}
+use Rattle.fbc_version_edits.proofs.OneCell.{next_same, one_cell_put, state_same}
+use Rattle.fbc_version_edits.proofs.Over.{over_unlinked, own_relation}
 use Rattle.fbc_meanings.proofs.SameViews.{same_reads}
 use Rattle.fbc_meanings.proofs.commands.versions_off_rows_are_not_read.Goals as goal
 

@@ -3,8 +3,8 @@ use Rattle.fbc_kinds.specs.Chain.{state_of}
 use Rattle.fbc_kinds.specs.View.{is_committed_state}
 use Rattle.fbc_kinds.specs.declared.pages.State.TheVariants.{Committed}
 use Rattle.fbc_runs.specs.Reading.{ReadsAs}
-use Rattle.fbc_views.specs.Edited.{with_page}
-use Rattle.fbc_rows.proofs.Marked.{marked_view}
+use Rattle.fbc_page_edits.specs.Edited.{with_page}
+use Rattle.fbc_version_edits.proofs.Marked.{marked_view}
 use Rattle.fbc_meanings.proofs.MarkedOnes.{marked_as}
 use Rattle.fbc_meanings.proofs.marks.marks_are_not_read.Goals as goal
 

@@ -5,8 +5,8 @@ use Rattle.fbc_kinds.specs.Meaning.{meaning_with}
 use Rattle.fbc_kinds.specs.View.{is_committed_state, next_of}
 use Rattle.fbc_kinds.specs.declared.pages.State.TheVariants as state
 use Rattle.fbc_kinds.specs.declared.snapshots.Standing.TheVariants as standing
-use Rattle.fbc_views.specs.Edited.{with_page}
-use Rattle.fbc_rows.proofs.Marked.{marked_view}
+use Rattle.fbc_page_edits.specs.Edited.{with_page}
+use Rattle.fbc_version_edits.proofs.Marked.{marked_view}
 use Rattle.fbc_runs.proofs.Numbers.{first_in}
 use Rattle.fbc_runs.proofs.OwnersCommit.{commit_reads}
 use Rattle.fbc_meanings.proofs.Committing.{commit_shows}

@@ -1,10 +1,10 @@
 use Rattle.std.proofs.Common.{◌≡◌, ◌⊎◌, ◌∷◌, ℕ, inl, inr}
 use Rattle.fbc_kinds.specs.Chain.{chain, version_of}
-use Rattle.fbc_views.specs.Edited.{with_page}
-use Rattle.fbc_rows.specs.Differences.{IsLeftAlone}
-use Rattle.fbc_rows.proofs.Frames.{other_chains}
-use Rattle.fbc_rows.proofs.OneCell.{next_same, one_cell_put, state_same}
-use Rattle.fbc_rows.proofs.TakenBack.{taken_chain, taken_chain_kept, taken_unlinked}
+use Rattle.fbc_page_edits.specs.Edited.{with_page}
+use Rattle.fbc_version_edits.specs.Differences.{IsLeftAlone}
+use Rattle.fbc_version_edits.proofs.Frames.{other_chains}
+use Rattle.fbc_version_edits.proofs.OneCell.{next_same, one_cell_put, state_same}
+use Rattle.fbc_version_edits.proofs.TakenBack.{taken_chain, taken_chain_kept, taken_unlinked}
 use Rattle.fbc_meanings.proofs.RowsGone.{alone_row, gone_row}
 use Rattle.fbc_meanings.proofs.RowsKept.{IsKeptRow, one_row, rows_read}
 use Rattle.fbc_meanings.proofs.puts.backouts_are_not_read.Goals as goal

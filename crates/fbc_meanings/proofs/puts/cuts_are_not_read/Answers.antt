@@ -1,8 +1,8 @@
 use Rattle.std.proofs.Common.{ℕ, inl, inr}
 use Rattle.fbc_kinds.specs.Chain.{chain, version_of}
-use Rattle.fbc_views.specs.Edited.{with_page}
-use Rattle.fbc_rows.proofs.CutChains.{IsSameOrCut, cut_chains}
-use Rattle.fbc_rows.proofs.OneCell.{next_same, one_cell_put, state_same}
+use Rattle.fbc_page_edits.specs.Edited.{with_page}
+use Rattle.fbc_version_edits.proofs.CutChains.{IsSameOrCut, cut_chains}
+use Rattle.fbc_version_edits.proofs.OneCell.{next_same, one_cell_put, state_same}
 use Rattle.fbc_meanings.proofs.RowsGone.{cut_row}
 use Rattle.fbc_meanings.proofs.RowsKept.{IsKeptRow, rows_read, same_row}
 use Rattle.fbc_meanings.proofs.puts.cuts_are_not_read.Goals as goal

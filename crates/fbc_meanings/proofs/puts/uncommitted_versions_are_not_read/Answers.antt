@@ -1,14 +1,14 @@
 use Rattle.std.proofs.Common.{◌∙◌, ◌∷◌, sym, ap, arith}
 use Rattle.fbc_kinds.specs.Chain.{version_of}
 use Rattle.fbc_kinds.specs.View.{is_top}
-use Rattle.fbc_views.specs.Edited.{with_page}
-use Rattle.fbc_rows.proofs.Changes.{put_above}
-use Rattle.fbc_rows.proofs.Flags.{top_of_empty}
-use Rattle.fbc_rows.proofs.Frames.{chain_of_lone, chain_of_none, other_chains, row_after_stands, row_before_stands}
-use Rattle.fbc_rows.proofs.NoLinkForms.{first_unlinked, own_unlinked}
-use Rattle.fbc_rows.proofs.OneCell.{next_same, one_cell_put, state_same}
-use Rattle.fbc_rows.proofs.Over.{over_chain, over_unlinked, own_relation}
-use Rattle.fbc_rows.proofs.OwnChain.{own_chain}
+use Rattle.fbc_page_edits.specs.Edited.{with_page}
+use Rattle.fbc_version_edits.proofs.Changes.{put_above}
+use Rattle.fbc_version_edits.proofs.Flags.{top_of_empty}
+use Rattle.fbc_version_edits.proofs.Frames.{chain_of_lone, chain_of_none, other_chains, row_after_stands, row_before_stands}
+use Rattle.fbc_version_edits.proofs.NoLinkForms.{first_unlinked, own_unlinked}
+use Rattle.fbc_version_edits.proofs.OneCell.{next_same, one_cell_put, state_same}
+use Rattle.fbc_version_edits.proofs.Over.{over_chain, over_unlinked, own_relation}
+use Rattle.fbc_version_edits.proofs.OwnChain.{own_chain}
 use Rattle.fbc_meanings.proofs.RowsGone.{came_row, replaced_row}
 use Rattle.fbc_meanings.proofs.RowsKept.{one_row, rows_read}
 use Rattle.fbc_meanings.proofs.puts.uncommitted_versions_are_not_read.Goals as goal

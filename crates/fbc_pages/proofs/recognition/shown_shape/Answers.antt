@@ -1,7 +1,7 @@
 use Rattle.std.proofs.Common.{ap, ◌∙◌, arith}
 use Rattle.fbc_kinds.specs.Limits.{file_pages}
 use Rattle.fbc_kinds.specs.HeaderSpelling.{ShowsShape, page_size_in}
-use Rattle.fbc_kinds.proofs.ShapeReading.{content_passes, name_is_short, value_is_short, IsShape-shown}
+use Rattle.fbc_kinds.proofs.ShapeReading.{content_passes, name_is_short, value_is_short, IsFileShape-shown}
 use Rattle.fbc_pages.proofs.recognition.shown_shape.Goals as goal
 
 pub shown_names-requires-clause-names : goal.shown_names-requires-clause-names
@@ -25,7 +25,7 @@ returns-clause-shape c = record {
 
 pub returns-clause-limits : goal.returns-clause-limits
 returns-clause-limits c =
-    IsShape-shown c.args.reach c.args.first.now _ (λ k. omega (arith, c.type_inv.first k)) (omega (arith, c.requires.length)) c.requires.size c.requires.unbroken (record {
+    IsFileShape-shown c.args.reach c.args.first.now _ (λ k. omega (arith, c.type_inv.first k)) (omega (arith, c.requires.length)) c.requires.size c.requires.unbroken (record {
       size = c.read_u32-size.ensures;
       count = c.relation_count.ensures;
       names = c.shown_names.ensures;

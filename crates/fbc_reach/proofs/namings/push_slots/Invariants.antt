@@ -3,7 +3,7 @@ use Rattle.fbc_reach.specs.declared.namings.Role.TheVariants as role
 use Rattle.fbc_reach.specs.Walk.{named_in_row, names_a_page}
 use Rattle.fbc_reach.proofs.namings.push_slots.Given as goal
 
--- the slots so far
+-- The slots so far.
 abbrev pub invariant-loop-slot : goal.invariant-loop-slot
 invariant-loop-slot l =
     l.namings.items

@@ -7,7 +7,6 @@ returns c size bytes journal file landings none sized shown =
     let empty : history_of journal landings ≡ [] = ap (λ es. with_landings (reverse es) (reverse landings)) none in
     record {
       legal = rw empty tt;
-      rests = rw empty (λ owner resource just. just);
       sized = sized;
       shown = rw empty shown;
     }

@@ -3,6 +3,6 @@ use Rattle.serde_json.specs.View.{view}
 use Rattle.fbc_report.specs.Values.{number_data}
 use Rattle.fbc_report.proofs.json_report.page_values.Given as goal
 
--- the values so far
+-- The values so far.
 abbrev pub invariant-loop-page : goal.invariant-loop-page
 invariant-loop-page l = map view l.values.items ≡ map number_data (take l.page-index l.pages)

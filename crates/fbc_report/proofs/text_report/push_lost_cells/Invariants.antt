@@ -3,6 +3,6 @@ use Rattle.std.specs.List.{flat_map}
 use Rattle.fbc_report.specs.Text.{lost_cell_line}
 use Rattle.fbc_report.proofs.text_report.push_lost_cells.Given as goal
 
--- the lines so far
+-- The lines so far.
 abbrev pub invariant-loop-page : goal.invariant-loop-page
 invariant-loop-page l = l.text.items ≡ l.initial.text.items ++ flat_map lost_cell_line (take l.page-index l.cells)

@@ -1,11 +1,11 @@
 use Rattle.std.proofs.Common.{◌≡◌, ◌+◌, ◌≤◌, length, not, count_by}
-use Rattle.fbc_script.specs.Pieces.{lines_of, is_passed_over}
+use Rattle.fbc_script.specs.Pieces.{split_lines, is_passed_over}
 use Rattle.fbc_script.proofs.parsing.count_kept.Given as goal
 
--- the lines so far and those that are left; each has a byte
+-- The lines so far and those that are left; each has a byte.
 abbrev pub invariant-loop-line : goal.invariant-loop-line
 invariant-loop-line l = record {
-  counted : l.count + count_by (λ line. not (is_passed_over line)) (lines_of l.rest) ≡ count_by (λ line. not (is_passed_over line)) (lines_of l.bytes);
+  counted : l.count + count_by (λ line. not (is_passed_over line)) (split_lines l.rest) ≡ count_by (λ line. not (is_passed_over line)) (split_lines l.bytes);
   fits : l.count + length l.rest ≤ length l.bytes;
 }
 

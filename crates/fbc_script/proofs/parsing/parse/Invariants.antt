@@ -1,14 +1,14 @@
 use Rattle.std.proofs.Common.{◌≡◌, ◌+◌, ◌≤◌, ◌++◌, length}
-use Rattle.fbc_script.specs.Pieces.{lines_of}
+use Rattle.fbc_script.specs.Pieces.{split_lines}
 use Rattle.fbc_script.specs.Scripts.{first_fault, kept_lines}
 use Rattle.fbc_script.proofs.parsing.parse.Given as goal
 
--- the lines so far and those that are left are all lines; each has a byte
+-- The lines so far and those that are left are all lines; each has a byte.
 abbrev pub invariant-loop-line : goal.invariant-loop-line
 invariant-loop-line l = record {
-  kept : l.lines ++ kept_lines l.threads (l.number + 1) (lines_of l.rest) ≡ kept_lines l.threads 1 (lines_of l.bytes);
-  fault : first_fault l.threads (l.number + 1) (lines_of l.rest) ≡ first_fault l.threads 1 (lines_of l.bytes);
-  counted : l.number + length (lines_of l.rest) ≡ length (lines_of l.bytes);
+  kept : l.lines ++ kept_lines l.threads (l.number + 1) (split_lines l.rest) ≡ kept_lines l.threads 1 (split_lines l.bytes);
+  fault : first_fault l.threads (l.number + 1) (split_lines l.rest) ≡ first_fault l.threads 1 (split_lines l.bytes);
+  counted : l.number + length (split_lines l.rest) ≡ length (split_lines l.bytes);
   fits : l.number + length l.rest ≤ length l.bytes;
 }
 

@@ -6,9 +6,10 @@ use Rattle.fbc_kinds.specs.Meaning.{meaning_with}
 use Rattle.fbc_kinds.proofs.Tests.{same_from_test, test_of_same}
 use Rattle.fbc_numbers.proofs.CutFacts.{clash}
 use Rattle.fbc_runs.specs.Reading.{ReadsAs}
-use Rattle.fbc_rows.specs.Forms.{IsBackout, IsRaised, NameTheSame, NamesNone}
+use Rattle.fbc_version_edits.specs.Forms.{IsBackout, IsRaised, NamesNone}
+use Rattle.fbc_page_edits.specs.Facing.{NameTheSame}
 use Rattle.fbc_closed_cuts.specs.Cut.{view}
-use Rattle.fbc_views.specs.Edited.{with_page}
+use Rattle.fbc_page_edits.specs.Edited.{with_page}
 use Rattle.fbc_world.specs.Commands.{change_on}
 use Rattle.fbc_world.specs.PageCell.{page_for}
 use Rattle.fbc_world.specs.World.{is_number_of, world_of}

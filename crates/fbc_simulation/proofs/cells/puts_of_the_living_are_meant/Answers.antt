@@ -7,26 +7,25 @@ use Rattle.fbc_simulation.proofs.OpensListed.{all-open}
 use Rattle.fbc_simulation.proofs.PutsLiving.{living-meant}
 use Rattle.fbc_simulation.proofs.cells.puts_of_the_living_are_meant.Goals as goal
 
-pub returns-clause-first : goal.returns-clause-first
-returns-clause-first c shape file past owner page cell new content cut living is lives form =
-    living-meant shape file past owner page cell new content cut living is lives
-    (c.puts_of_the_living_are_carried_out.ensures.first shape file past owner page cell new content cut living is lives form)
-    (c.puts_of_the_living_are_carried_out.ensures.first shape file past owner page cell new content (all_drafts (world_of shape file past)) (opens_at (scene_of shape file past))
-    (newest-put-in shape file past owner page cell new content (opens_at (scene_of shape file past)) (all-open shape file past is.whole.order.numbered.stand) is.whole is.simulated is.sees.guard is.made)
-    (open-lives shape file past is.whole is.simulated owner page cell new form.t form.open_is) form)
-
-pub returns-clause-own : goal.returns-clause-own
-returns-clause-own c shape file past owner page cell new content cut living is lives form =
-    living-meant shape file past owner page cell new content cut living is lives
-    (c.puts_of_the_living_are_carried_out.ensures.own shape file past owner page cell new content cut living is lives form)
-    (c.puts_of_the_living_are_carried_out.ensures.own shape file past owner page cell new content (all_drafts (world_of shape file past)) (opens_at (scene_of shape file past))
-    (newest-put-in shape file past owner page cell new content (opens_at (scene_of shape file past)) (all-open shape file past is.whole.order.numbered.stand) is.whole is.simulated is.sees.guard is.made)
-    (open-lives shape file past is.whole is.simulated owner page cell new form.t form.open_is) form)
-
-pub returns-clause-over : goal.returns-clause-over
-returns-clause-over c shape file past owner page cell new content cut living is lives form =
-    living-meant shape file past owner page cell new content cut living is lives
-    (c.puts_of_the_living_are_carried_out.ensures.over shape file past owner page cell new content cut living is lives form)
-    (c.puts_of_the_living_are_carried_out.ensures.over shape file past owner page cell new content (all_drafts (world_of shape file past)) (opens_at (scene_of shape file past))
-    (newest-put-in shape file past owner page cell new content (opens_at (scene_of shape file past)) (all-open shape file past is.whole.order.numbered.stand) is.whole is.simulated is.sees.guard is.made)
-    (open-lives shape file past is.whole is.simulated owner page cell new form.t form.open_is) form)
+pub returns : goal.returns
+returns c shape file past owner page cell new content cut living is lives =
+    record {
+      first = λ form.
+          living-meant shape file past owner page cell new content cut living is lives
+          ((c.puts_of_the_living_are_carried_out.ensures shape file past owner page cell new content cut living is lives).first form)
+          ((c.puts_of_the_living_are_carried_out.ensures shape file past owner page cell new content (all_drafts (world_of shape file past)) (opens_at (scene_of shape file past))
+          (newest-put-in shape file past owner page cell new content (opens_at (scene_of shape file past)) (all-open shape file past is.whole.order.numbered.stand) is.whole is.simulated is.sees.guard is.made)
+          (open-lives shape file past is.whole is.simulated owner page cell new form.t form.open_is)).first form);
+      own = λ form.
+          living-meant shape file past owner page cell new content cut living is lives
+          ((c.puts_of_the_living_are_carried_out.ensures shape file past owner page cell new content cut living is lives).own form)
+          ((c.puts_of_the_living_are_carried_out.ensures shape file past owner page cell new content (all_drafts (world_of shape file past)) (opens_at (scene_of shape file past))
+          (newest-put-in shape file past owner page cell new content (opens_at (scene_of shape file past)) (all-open shape file past is.whole.order.numbered.stand) is.whole is.simulated is.sees.guard is.made)
+          (open-lives shape file past is.whole is.simulated owner page cell new form.t form.open_is)).own form);
+      over = λ form.
+          living-meant shape file past owner page cell new content cut living is lives
+          ((c.puts_of_the_living_are_carried_out.ensures shape file past owner page cell new content cut living is lives).over form)
+          ((c.puts_of_the_living_are_carried_out.ensures shape file past owner page cell new content (all_drafts (world_of shape file past)) (opens_at (scene_of shape file past))
+          (newest-put-in shape file past owner page cell new content (opens_at (scene_of shape file past)) (all-open shape file past is.whole.order.numbered.stand) is.whole is.simulated is.sees.guard is.made)
+          (open-lives shape file past is.whole is.simulated owner page cell new form.t form.open_is)).over form);
+    }

@@ -30,7 +30,7 @@ returns c shape file before moment legal whole simulated = go moment.event.actor
   put_comes : (owner page cell : ℕ) (new : Cell) → GuardOfEdit (scene_of shape file before) owner page (edit.PutCell cell new) → (found : Option Page) → page_after shape (world_of shape file before) owner page (edit.PutCell cell new) ≡ found → is_some found ≡ true
       → MayAllCome (machine_of shape file before) (commands_made shape (world_of shape file before) owner page (edit.PutCell cell new))
   put_comes owner page cell new g None is fits = absurd cc
-  put_comes owner page cell new g (Some content) is fits = c.changes_come.ensures.come shape file before owner page cell new content whole simulated g is
+  put_comes owner page cell new g (Some content) is fits = (c.changes_come.ensures shape file before owner page cell new content whole simulated g is).come
 
   comes : (owner page : ℕ) (e : Edit) → GuardOfEdit (scene_of shape file before) owner page e → MayAllCome (machine_of shape file before) (commands_made shape (world_of shape file before) owner page e)
   comes owner page (edit.Mark number state) g = c.plain_edits_and_marks_come.ensures.mark shape file before owner page number state

@@ -6,7 +6,7 @@ use Rattle.fbc_world.specs.PageCell.{blank_file, draft, kept}
 use Rattle.fbc_world.specs.Replay.{IsWithin}
 use Rattle.fbc_world.proofs.replays.replayed.Given as goal
 
--- the cell is that of the history so far
+-- The cell is that of the history so far.
 pub record IsCellAfter (shape : Shape) (history : History) (page : ℕ) (cell : Replay) : Type 0 where
   pub kept_is : Some cell.kept ≡ kept shape blank_file history page
   pub draft_is : cell.draft ≡ draft shape blank_file history page

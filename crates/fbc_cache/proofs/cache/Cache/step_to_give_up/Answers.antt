@@ -11,9 +11,9 @@ returns-then-is_unsettled-clause-due c may =
 
 pub returns-else-is_unsettled-clause-step : goal.returns-else-is_unsettled-clause-step
 returns-else-is_unsettled-clause-step c =
-    inr (λ unsettled. absurd (let yes : c.is_unsettled.result ≡ true = c.is_unsettled.ensures.1 unsettled in cc c.if-is_unsettled.false), ap (λ r. ask.Lower r c.args.level) c.page_resource.ensures)
+    inr (λ unsettled. absurd (let yes : c.is_unsettled.result ≡ true = c.is_unsettled.ensures.1 unsettled in cc c.if-is_unsettled.false), ap (λ r. ask.Lower r c.args.level) c.page.ensures)
 
 pub returns-else-is_unsettled-clause-due : goal.returns-else-is_unsettled-clause-due
 returns-else-is_unsettled-clause-due c may =
     due-giving c.args.self.now c.holds.ensures.cache c.args.page c.args.cause c.args.level _ may
-    (inr (λ unsettled. absurd (let yes : c.is_unsettled.result ≡ true = c.is_unsettled.ensures.1 unsettled in cc c.if-is_unsettled.false), ap (λ r. ask.Lower r c.args.level) c.page_resource.ensures))
+    (inr (λ unsettled. absurd (let yes : c.is_unsettled.result ≡ true = c.is_unsettled.ensures.1 unsettled in cc c.if-is_unsettled.false), ap (λ r. ask.Lower r c.args.level) c.page.ensures))

@@ -1,15 +1,15 @@
 -- Of two pages one at most stands before the other, and a new pair finds room and makes no circle.
 use Rattle.std.proofs.Common.{vec_capacity, length, ap, subst, sym, arith}
-use Rattle.fbc_precedence.specs.Precedence.{Precedence, StandsBefore, HasRoom}
+use Rattle.fbc_precedence.specs.Precedence.{Precedence, ComesBefore, HasRoom}
 use Rattle.fbc_precedence.specs.Room.{IsGraph}
 use Rattle.fbc_precedence.proofs.Keeping.{one-way, told-not, room-for-one, graph-with}
 use Rattle.fbc_precedence.proofs.graphs.Graph.relate.Goals as goal
 
 pub returns-then-stands_before-clause-write_first : goal.returns-then-stands_before-clause-write_first
 returns-then-stands_before-clause-write_first c =
-    let down = subst (λ pairs. StandsBefore pairs c.args.high c.args.low) c.deref.ensures.value (c.stands_before.ensures.0 c.if-stands_before.true) in (
+    let down = subst (λ pairs. ComesBefore pairs c.args.high c.args.low) c.deref.ensures.value (c.stands_before.ensures.0 c.if-stands_before.true) in (
       λ same. absurd (cc),
-      λ up. absurd (one-way c.self.inside.pairs.items c.self.invariant.order.acyclic c.args.high c.args.low down (subst (λ (order : Precedence). StandsBefore order.pairs c.args.low c.args.high) (sym c.self.view_is) up)),
+      λ up. absurd (one-way c.self.inside.pairs.items c.self.invariant.order.acyclic c.args.high c.args.low down (subst (λ (order : Precedence). ComesBefore order.pairs c.args.low c.args.high) (sym c.self.view_is) up)),
     )
 
 pub add_pair-requires : goal.add_pair-requires

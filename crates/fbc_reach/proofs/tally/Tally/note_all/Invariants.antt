@@ -3,7 +3,7 @@ use Rattle.fbc_reach.specs.Tally.{IsTallyOf}
 use Rattle.fbc_reach.specs.declared.namings.Naming.{Naming}
 use Rattle.fbc_reach.proofs.tally.Tally.note_all.Given as goal
 
--- the namings so far
+-- The namings so far.
 abbrev pub invariant-loop-naming : goal.invariant-loop-naming
 invariant-loop-naming g l = record {
   noted : (done : List Naming)

@@ -3,7 +3,7 @@ use Rattle.fbc_lock_table.specs.declared.answers.Asked.TheVariants as asked
 use Rattle.fbc_legal.specs.Lives.{living}
 use Rattle.fbc_world.specs.History.{recorded}
 use Rattle.fbc_region.specs.Adding.{UsesRoom}
-use Rattle.fbc_region.proofs.Asking.{few_live, kept_circle, kept_granted, kept_refused, kept_waiting}
+use Rattle.fbc_region.proofs.Asking.{few_live, kept_both, kept_circle, kept_refused, kept_waiting}
 use Rattle.fbc_region.proofs.ledgers.Ledger.ask.Goals as goal
 
 pub returns-in-Dead-clause-room : goal.returns-in-Dead-clause-room
@@ -11,8 +11,8 @@ returns-in-Dead-clause-room c = subst (λ j. UsesRoom j c.reap.new.self 9) c.sel
 
 pub invariant_of-self-in-Granted : goal.invariant_of-self-in-Granted
 invariant_of-self-in-Granted c =
-    kept_granted c.args.self.now c.self.inside.chronicle c.push.new.self c.self.inside.table c.self.inside.owners c.args.owner c.args.resource c.args.level c.args.wait c.args.word c.self.view_is c.self.invariant c.requires.alive c.requires.may c.requires.room c.push.ensures.events c.push.ensures.spare
-    c.push-in-Granted.new.self c.ask-asked.new.self c.in-Granted.ensures.answer c.in-Granted.ensures.after c.push-in-Granted.ensures.events c.push-in-Granted.ensures.spare
+    kept_both c.args.self.now c.self.inside.chronicle c.push_granted.new.self c.self.inside.table c.self.inside.owners c.args.owner c.args.resource c.args.level c.args.wait c.args.word c.self.view_is c.self.invariant c.requires.alive c.requires.may c.requires.room
+    c.push_granted.ensures.events c.push_granted.ensures.spare c.ask-asked.new.self c.in-Granted.ensures.answer c.in-Granted.ensures.after
 
 pub cycle_from-requires : goal.cycle_from-requires
 cycle_from-requires c =

@@ -16,4 +16,4 @@ pub returns-clause-legal : goal.returns-clause-legal
 returns-clause-legal g c =
     let alive : is_alive (recorded c.self.inside.ledger) c.args.who ≡ true = subst (λ (v : Shared _). is_alive (recorded v.journal) c.args.who ≡ true) (sym c.self.view_is) c.requires in
     subst (λ (v : Shared _). (bytes : Option (List ℕ)) (file : View) (landings : List Bool) → IsLawfulOver v.size bytes v.journal file landings → IsLawfulOver c.self.inside.size bytes c.die.new.self file landings) c.self.view_is
-    (λ bytes file landings lawful. lawful_died c.self.inside.size bytes c.self.inside.ledger c.die.new.self file landings lawful c.args.who alive c.die.ensures.adds)
+    (λ bytes file landings lawful. lawful_died c.self.inside.size bytes c.self.inside.ledger c.die.new.self file landings c.is_at_rest.ensures lawful c.args.who alive c.die.ensures.adds)

@@ -33,5 +33,5 @@ returns-clause-legal g c =
     subst (λ n. IsLawfulOver n (g.D.Device.bytes c.step.new.self.device) c.step.new.self.journal file (landings ++ new_landings (g.D.Device.landings c.self.inside.device) (g.D.Device.landings c.step.new.self.device)))
     (sym c.step.ensures.size)
     (stays_lawful c.self.inside.size c.self.inside.ledger c.step.new.self.journal file landings (g.D.Device.landings c.self.inside.device) (g.D.Device.landings c.step.new.self.device) c.args.who c.args.local.now c.step.result
-    c.args.image.now c.step.new.image fits (g.D.Device.bytes c.self.inside.device) (g.D.Device.bytes c.step.new.self.device) c.args.ask lawful meets
+    c.args.image.now c.step.new.image fits c.is_at_rest.ensures (g.D.Device.bytes c.self.inside.device) (g.D.Device.bytes c.step.new.self.device) c.args.ask lawful meets
     (record { between = c.record_all.new.self; local = c.record_all.ensures.adds; step = c.step.ensures.step }) c.step.ensures.pages))

@@ -1,6 +1,0 @@
-pub mod Shown
-pub mod Ready
-pub mod Kept
-pub mod HeaderEdits
-pub mod NextNumbers
-pub mod PageEdits

@@ -1,5 +1,0 @@
-use Rattle.fbc_keeping.proofs.HeaderEdits.{inventory_kept}
-use Rattle.fbc_keeping.proofs.headers.add_inventory_keeps_views.Goals as goal
-
-pub returns : goal.returns
-returns c = λ shape file past owner page content seen stamps. inventory_kept shape file past owner page content seen stamps

@@ -1,5 +1,0 @@
-use Rattle.fbc_keeping.proofs.HeaderEdits.{tip_kept}
-use Rattle.fbc_keeping.proofs.headers.add_tip_keeps_views.Goals as goal
-
-pub returns : goal.returns
-returns c = λ shape file added past owner page content seen stamps. tip_kept shape file past owner page content seen stamps added

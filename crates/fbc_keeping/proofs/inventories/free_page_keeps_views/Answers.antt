@@ -1,5 +1,0 @@
-use Rattle.fbc_keeping.proofs.PageEdits.{free_kept}
-use Rattle.fbc_keeping.proofs.inventories.free_page_keeps_views.Goals as goal
-
-pub returns : goal.returns
-returns c = λ shape file freed past owner page content seen stamps. free_kept shape file past owner page content seen stamps freed

@@ -1,4 +1,0 @@
-use Rattle.fbc_keeping.proofs.seen.kept_views_are_sound.Goals as goal
-
-pub returns : goal.returns
-returns c = λ shape file edit keeps past owner page content seen stamps sees. (keeps past owner page content seen stamps sees).sound

@@ -1,0 +1,5 @@
+pub mod Edited
+pub mod Facing
+pub mod Alike
+pub mod Allowed
+pub mod Kept

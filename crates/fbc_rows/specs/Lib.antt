@@ -1,4 +1,0 @@
-pub mod Forms
-pub mod Differences
-pub mod Open
-pub mod Puts

@@ -1,5 +1,0 @@
-use Rattle.fbc_settled_rows.proofs.CutsNext.{next-cuts}
-use Rattle.fbc_settled_rows.proofs.cuts.events_keep_cuts_settled.Goals as goal
-
-pub returns : goal.returns
-returns c = λ shape file before moment legal order held. next-cuts shape file before order held moment legal

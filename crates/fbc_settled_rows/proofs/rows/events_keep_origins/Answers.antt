@@ -1,5 +1,0 @@
-use Rattle.fbc_settled_rows.proofs.OriginsNext.{origins-next}
-use Rattle.fbc_settled_rows.proofs.rows.events_keep_origins.Goals as goal
-
-pub returns : goal.returns
-returns c = λ shape file before moment legal order rows no_links. origins-next shape file before order rows no_links moment legal

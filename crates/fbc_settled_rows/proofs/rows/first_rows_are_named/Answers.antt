@@ -1,5 +1,0 @@
-use Rattle.fbc_settled_rows.proofs.RowsNext.{rows-first}
-use Rattle.fbc_settled_rows.proofs.rows.first_rows_are_named.Goals as goal
-
-pub returns : goal.returns
-returns c = λ shape file. rows-first shape file

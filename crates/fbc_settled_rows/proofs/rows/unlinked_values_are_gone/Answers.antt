@@ -1,5 +1,0 @@
-use Rattle.fbc_settled_rows.proofs.OriginsNext.{gone-after}
-use Rattle.fbc_settled_rows.proofs.rows.unlinked_values_are_gone.Goals as goal
-
-pub returns : goal.returns
-returns c = λ shape file before moment legal order rows no_links. gone-after shape file before order rows no_links moment legal

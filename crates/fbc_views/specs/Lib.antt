@@ -1,4 +1,0 @@
-pub mod Edited
-pub mod Facing
-pub mod Alike
-pub mod Allowed

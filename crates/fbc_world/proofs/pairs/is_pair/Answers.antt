@@ -1,5 +1,0 @@
-use Rattle.fbc_world.proofs.PairLaws.{IsPair-actor}
-use Rattle.fbc_world.proofs.pairs.is_pair.Goals as goal
-
-pub returns : goal.returns
-returns c = rw c.is_pair_of_actor.ensures (IsPair-actor c.args.high c.args.low c.args.events.now)
