@@ -4,11 +4,7 @@
 #![tactic(auto)]
 
 mod access;
-#[cfg(test)]
-mod encoded_tests;
 mod help;
-#[cfg(test)]
-mod tests;
 
 ghost use Rattle.std.specs.Prelude.{◌≡◌, ◌⊎◌, IfErr};
 

@@ -38,7 +38,8 @@ pub fn apply(alloc: Global, shape: &Shape, edit: &Edit, page: &mut Page) -> Resu
 /// The law of edits: the page after an edit of a page within its limits is within them. It does
 /// nothing when it is run.
 pub fn edits_keep_limits()
-    ensures { (shape : Shape) (edit : Edit) (before after : Page) → IsShape shape → IsEdit edit → IsWithinLimits shape before → applied shape edit before ≡ Some after → IsWithinLimits shape after }
+    ensures { (shape : Shape) (edit : Edit) (before after : Page) → IsShape shape → IsEdit edit
+        → IsWithinLimits shape before → applied shape edit before ≡ Some after → IsWithinLimits shape after }
 {}
 
 /// Tries the edit, and answers whether it fits.

@@ -1,4 +1,1 @@
 mod Lengths
-mod Requests
-mod Stepped
-mod Ready

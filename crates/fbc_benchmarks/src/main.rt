@@ -1,7 +1,7 @@
 //! The program `fbc_benchmarks`: `pages COUNT` times the codecs of pages beside a plain copy, and `script
 //! BYTES` the reading of scripts. What it counts goes to the standard output and the seconds, which vary, to
-//! the standard error. `file SIZE PAGES PATH` makes a sound file for the check of files to be timed over,
-//! `steps COUNT` times the steps of a region, and `caches BUFFERS COUNT` the wants of a cache.
+//! the standard error. `file SIZE PAGES PATH` makes a sound file for the check of files to be timed over, and
+//! `caches BUFFERS COUNT` times the wants of a cache.
 //!
 //! - **Proved**: each part is safe and returns, and calls the libraries where their conditions hold. Of times
 //!   nothing is proved; what was measured stands in docs/BENCHMARKS.md.
@@ -12,8 +12,6 @@ mod files;
 mod pages;
 mod plans;
 mod scripts;
-mod spent;
-mod steps;
 
 ghost use Rattle.std.specs.Prelude.{◌*◌, ◌<◌};
 
@@ -22,17 +20,15 @@ use crate::files::write_file;
 use crate::pages::{copy_pages, recode_pages, sample_pages};
 use crate::plans::Plan;
 use crate::scripts::{PAIR, script_of};
-use crate::spent::Start;
-use crate::steps::{busy_region, take_steps};
 use anyhow::{Result, bail};
 use fbc_cache::Cache;
 use fbc_script::{Line, parse};
-use fbc_world::Event;
+use fbc_timing::Start;
 use std::fs::File;
 use std::{env, mem};
 
 const USAGE: &str =
-    "usage: fbc_benchmarks pages COUNT | script BYTES | file SIZE PAGES PATH | steps COUNT | caches BUFFERS COUNT ..";
+    "usage: fbc_benchmarks pages COUNT | script BYTES | file SIZE PAGES PATH | caches BUFFERS COUNT ..";
 
 /// The greatest script that is asked for, in bytes.
 const GREATEST: usize = 1_000_000_000;
@@ -68,10 +64,6 @@ fn carry_out<'a>(rt: &HostRuntime, words: &'a [String]) -> Result<&'a [String]> 
         [word, size, pages, path, rest @ ..] if word.as_str() == "file" => {
             let size = size.as_str().parse::<u32>()?;
             make_file(rt, size, pages.as_str().parse::<u32>()?, path.as_str())?;
-            Ok(rest)
-        }
-        [word, count, rest @ ..] if word.as_str() == "steps" => {
-            time_steps(rt, count.as_str().parse::<u32>()?)?;
             Ok(rest)
         }
         [word, buffers, count, rest @ ..] if word.as_str() == "caches" => {
@@ -134,24 +126,6 @@ fn time_script(rt: &HostRuntime, pairs: usize) -> Result<()>
     let count = script.lines.len();
     println!(rt; "{} bytes, {count} lines", bytes.len())?;
     eprintln!(rt; "{count} lines read in {reading}")?;
-    Ok(())
-}
-
-/// Takes so many steps in a region where another owner holds many pages.
-fn time_steps(rt: &HostRuntime, count: u32) -> Result<()> {
-    let mut region = busy_region(rt.alloc(), count)?;
-    let mut image = vec![in rt.alloc(); 0u8; 1024]?;
-    let start = Start::now(rt)?;
-    take_steps(count, &mut region, &mut image)?;
-    let spent = start.spent(rt)?;
-    let events = region.journal().length();
-    println!(rt; "{count} steps, {events} events in the journal")?;
-    eprintln!(rt; "{count} steps in {spent}")?;
-    eprintln!(rt; "{:.0} steps a second of the processor", spent.rate(count))?;
-    eprintln!(rt;
-        "an event takes {} bytes in memory",
-        mem::size_of::<Event>()
-    )?;
     Ok(())
 }
 

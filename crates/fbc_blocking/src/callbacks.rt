@@ -24,6 +24,9 @@ pub fn blocked_by(table: &LockTable, owner: u32, page: u32) -> Option<u32>
 pub fn next_callback(table: &LockTable, owner: u32, above: Option<u32>) -> Option<Callback>
     ensures { MatchOption result (spec.KeepsNobodyOut table.now owner above) (spec.IsNextCallback table.now owner above) }
 {
+    if table.waiters() == 0 {
+        return None;
+    }
     let page = next_page(table, owner, above)?;
     let asker = blocked_by(table, owner, page)?;
     Some(Callback {
@@ -170,7 +173,8 @@ fn with_called(
 fn is_called(table: &LockTable, request: &Request, owner: u32, above: Option<u32>) -> bool
     ensures { result ≡ spec.is_called table.now owner above request.now }
 {
-    request.resource.series.is_same(Series::Page)
+    request.waiting.is_some()
+        && request.resource.series.is_same(Series::Page)
         && is_past(above, request.resource.key)
         && is_kept_out(
             request,

@@ -5,6 +5,7 @@
 //!     on the page.
 //!   - `next_callback` names the least page past a given one on which there is such an owner, with the
 //!     highest of none, PR and EX that goes beside all that living owners wait for there.
+//! - **Argued**: where nobody waits, `next_callback` reads one count and no request.
 #![tactic(auto)]
 
 mod callbacks;

@@ -24,7 +24,9 @@ pub fn removed_is_gone()
 
 /// A new buffer is found, and the others stay.
 pub fn added_is_found()
-    ensures { (held : List ABuffer) (b : ABuffer) (other : ℕ) → buffer_of held b.page ≡ None → buffer_of (held ++ b ∷ []) other ≡ (if b.page == other then Some b else buffer_of held other) }
+    ensures { (held : List ABuffer) (b : ABuffer) (other : ℕ)
+        → buffer_of held b.page ≡ None
+        → buffer_of (held ++ b ∷ []) other ≡ (if b.page == other then Some b else buffer_of held other) }
 {}
 
 /// A use of a page changes no buffer.

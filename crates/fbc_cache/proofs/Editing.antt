@@ -40,6 +40,9 @@ copy-limits shape (b ∷ bs) page all = step (is_of page b) (copy-limits shape b
   step true rest = own b.wanted b.copy all.0.copy
   step false rest = rest
 
+pub used-limits : (shape : Shape) (held : List Buffer) (page : ℕ) (content : Page) → AreBuffers shape held → copy_in held page ≡ Some content → IsWithinLimits shape content
+used-limits shape held page content all is = subst (λ copy. IfSome copy (IsWithinLimits shape)) is (copy-limits shape held page all)
+
 -- The buffers of a page that is held in EX.
 no_buffer : (page : ℕ) (held : List Buffer) → buffer_of held page ≡ None → AllByRecursion (λ b. is_of page b ≡ true → b.level ≡ Ex) held
 no_buffer page [] none = tt

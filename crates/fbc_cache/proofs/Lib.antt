@@ -16,3 +16,5 @@ pub mod DueWants
 pub mod Conditions
 pub mod PinnedBuffers
 pub mod PinnedPages
+pub mod Least
+pub mod Empty

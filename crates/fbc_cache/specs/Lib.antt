@@ -1,6 +1,7 @@
 pub mod Cache
 pub mod Edits
 pub mod Giving
+pub mod Least
 pub mod Readers
 pub mod Remembered
 pub mod Takes

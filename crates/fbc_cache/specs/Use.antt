@@ -1,4 +1,4 @@
--- The cache after a page is pinned, is no more pinned, or is asked for while it is in use.
+-- The cache after a page is pinned, is no more pinned, is used without a pin, or is asked for while it is in use.
 use Rattle.std.specs.Prelude.{ℕ, true, false, if◌then◌else◌, map}
 use Rattle.fbc_buffers.specs.Holding.{touched, with_blocking, with_pin}
 use Rattle.fbc_cache.specs.Cache.{CacheState, is_granted_in}
@@ -12,3 +12,7 @@ after_unpin c page = record c { held = map (with_pin page false) c.held }
 
 abbrev pub after_mark : CacheState → ℕ → CacheState
 after_mark c page = record c { held = map (with_blocking page true) c.held }
+
+-- A page is the last one used.
+abbrev pub after_touch : CacheState → ℕ → CacheState
+after_touch c page = record c { held = touched page c.held }

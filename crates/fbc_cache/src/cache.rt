@@ -1,6 +1,6 @@
 //! The cache, and the calls on one of its pages.
 
-ghost use Rattle.std.specs.Prelude.{◌≡◌, ◌↔◌, [], IsTrue, IfOk};
+ghost use Rattle.std.specs.Prelude.{◌≡◌, [], IfOk};
 ghost use Rattle.std.specs.Option.{option_copied};
 ghost use Rattle.fbc_buffers.specs.Holding.{IsHolding, victim_of};
 ghost use Rattle.fbc_kinds.specs.HeaderSpelling.{IsFileShape};
@@ -9,7 +9,7 @@ ghost use Rattle.fbc_cache.specs.Use.{after_mark, after_pin, after_unpin};
 
 use crate::remembered::Remembered;
 use fbc_buffers::Buffers;
-use fbc_kinds::{Page, Shape};
+use fbc_kinds::{Edge, Page, Shape};
 use fbc_levels::Callback;
 use fbc_precedence::Graph;
 use std::alloc::{AllocError, Global};
@@ -34,7 +34,8 @@ impl Model for Cache {
 
     ghost view = { λ c. record { shape = c.shape; room = c.buffers.room; held = c.buffers.held; pairs = c.graph.pairs; pointers = c.remembered } };
 
-    ghost invariant = { λ c. IsFileShape c.shape × (c.graph.buffers ≡ c.buffers.room) × IsCache (record { shape = c.shape; room = c.buffers.room; held = c.buffers.held; pairs = c.graph.pairs; pointers = c.remembered }) };
+    ghost invariant = { λ c. IsFileShape c.shape × (c.graph.buffers ≡ c.buffers.room)
+        × IsCache (record { shape = c.shape; room = c.buffers.room; held = c.buffers.held; pairs = c.graph.pairs; pointers = c.remembered }) };
 }
 
 impl Cache {
@@ -54,6 +55,14 @@ impl Cache {
             graph: Graph::new(alloc, buffers)?,
             remembered: Remembered::new(alloc)?,
         })
+    }
+
+    /// The shape of the file.
+    pub fn shape(&self) -> &Shape
+        ensures shape { result.now ≡ self.now.shape }
+        ensures file { IsFileShape result.now }
+    {
+        &self.shape
     }
 
     /// Bytes of a page.
@@ -88,13 +97,21 @@ impl Cache {
         self.buffers.set_blocking(callback.page, true);
     }
 
-    /// What a cache is holds of it: there are no more buffers than there is room for, and one for each page, and its levels,
-    /// copies and pairs are as `IsCache` says. It does nothing when it is run.
+    /// What a cache is holds of it: there are no more buffers than there is room for, and one for each page, its levels,
+    /// copies and pairs are as `IsCache` says, and its shape is a file's. It does nothing when it is run.
     pub fn holds(&self)
         ensures holding { IsHolding (record { room = self.now.room; held = self.now.held }) }
         ensures cache { IsCache self.now }
+        ensures file { IsFileShape self.now.shape }
     {
         let _held = self.buffers.held();
+    }
+
+    /// The pairs of pages of which the first is to be written before the second, the oldest first.
+    pub fn pairs(&self) -> &[Edge]
+        ensures { result.now ≡ self.now.pairs }
+    {
+        self.graph.pairs()
     }
 
     /// Whether the page is in use.
@@ -107,8 +124,8 @@ impl Cache {
         }
     }
 
-    /// What may be used of the page.
-    pub fn page(&self, page: u32) -> Option<&Page>
+    /// What may be used of the page. Only the cache takes a page apart: its readers tell what stands in one.
+    pub(crate) fn page(&self, page: u32) -> Option<&Page>
         ensures { option_copied result ≡ copy_in self.now.held page }
     {
         match self.buffers.buffer(page) {

@@ -5,7 +5,7 @@ ghost use Rattle.std.specs.List.{list_any};
 ghost use Rattle.std.specs.Option.{option_map_or};
 ghost use Rattle.fbc_buffers.specs.Holding.{buffer_of, is_waiting};
 ghost use Rattle.fbc_levels.specs.Levels.{is_page_level};
-ghost use Rattle.fbc_cache.specs.Wants.{is_due, is_idle, is_lock_due, is_lowering_due, is_page_series, is_part, is_unread, is_write_due};
+ghost use Rattle.fbc_cache.specs.Wants.{is_due, is_idle, is_lock_due, is_lowering_due, is_page_series, is_part, is_unread};
 ghost use Rattle.fbc_precedence.specs.Search.{is_blocked};
 
 use crate::cache::Cache;
@@ -52,7 +52,7 @@ impl Cache {
     }
 
     /// Whether some page is waited for.
-    fn waits(&self) -> bool
+    pub fn waits(&self) -> bool
         ensures { result ≡ list_any is_waiting self.now.held }
     {
         self.buffers

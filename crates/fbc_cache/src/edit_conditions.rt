@@ -2,7 +2,7 @@
 
 ghost use Rattle.std.specs.Prelude.{◌≡◌, ◌↔◌, IfOk, IsTrue, true, is_some};
 ghost use Rattle.fbc_levels.specs.declared.levels.Level.TheVariants.{Ex};
-ghost use Rattle.fbc_cache.specs.Cache.{is_pinned_in, level_in};
+ghost use Rattle.fbc_cache.specs.Cache.{level_in};
 ghost use Rattle.fbc_cache.specs.Edits.{MayEdit, page_after};
 
 use crate::cache::Cache;

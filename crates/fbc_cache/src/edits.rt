@@ -1,6 +1,6 @@
 //! Edits of pages in the cache.
 
-ghost use Rattle.std.specs.Prelude.{◌≡◌, ◌≢◌, Option, IfOk, OnErr, true, is_some, Some, None, ℕ, List};
+ghost use Rattle.std.specs.Prelude.{◌≡◌, Option, IfOk, OnErr, true, is_some, Some, None, List};
 ghost use Rattle.fbc_kinds.specs.declared.edges.Edge.{Edge as AnEdge};
 ghost use Rattle.fbc_kinds.specs.declared.edits.Edit.{Edit as AnEdit};
 ghost use Rattle.fbc_kinds.specs.Edits.{IsWithinLimits, applied};

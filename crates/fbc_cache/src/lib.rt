@@ -22,10 +22,17 @@
 //!   - `step_to_give_up` gives the next step by which a page is given up, or held in a lower level, for any
 //!     cause: writes of the least page before which none is to be written, then the lowering (`step`, `due`).
 //!   - **A pinned page stays** through every answer, in its level and with its copy (`pinned_pages_stay`).
-//!   - `pin`, `unpin`, `mark_blocking`, `victim` and `dirty` do and answer what `specs/Use` says, and the
-//!     readers what `specs/Readers` says of the copy; of a page that may not be used, what an empty one says.
+//!   - `pin`, `unpin`, `touch` and `mark_blocking` do what `specs/Use` says, and the readers answer what
+//!     `specs/Readers` says of the copy; of a page that may not be used, what an empty one says.
+//!   - `victim` answers, of the pages that are not in use, the one whose last use is longest ago, `dirty` the next page in the order of writes
+//!     (`specs/Edits`), and `next_pinned`, `next_held` and `first_empty` the least page in use, the least page
+//!     held and the least empty cell, none exactly where there is none (`specs/Least`).
+//!   - No call hands out a page or a cell: a reader tells one field.
+//!   - `spell` writes bytes that spell the copy, over all that stood in the buffer (`spelled`). `shape` and
+//!     `pairs` hand out the shape and the pairs of the order.
 //! - **Supposed**: the shape is one that a recognised file has; a page that is edited is pinned and in EX and
-//!   the edit fits it (`may_edit`); a page that is wanted may be so (`may_want`); bytes read are a page's.
+//!   the edit fits it (`may_edit`); a page that is wanted may be so (`may_want`); bytes read are a page's; a page
+//!   that is spelled has a copy (`has_copy`), and a buffer has the size of a page or room for the value.
 //!   That a format carries the number of its page is a matter of who edits.
 //! - Tests drive the cache by hand; no attachment uses it yet.
 #![tactic(auto)]
@@ -37,11 +44,14 @@ mod edit_conditions;
 mod edits;
 mod faults;
 mod giving;
+mod held;
 mod needs;
 mod readers;
 mod remembered;
+mod spelled;
 mod staying;
 mod takes;
+mod versions;
 mod wants;
 
 pub use cache::Cache;

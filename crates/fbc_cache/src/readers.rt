@@ -3,15 +3,14 @@
 
 ghost use Rattle.std.specs.Prelude.{◌≡◌, ◌≤◌, IfSome, length};
 ghost use Rattle.std.specs.Option.{option_copied};
-ghost use Rattle.fbc_kinds.specs.DataSpelling.{empty_cell};
 ghost use Rattle.fbc_kinds.specs.View.{header_in};
 ghost use Rattle.fbc_kinds.specs.declared.pages.Header.{Header as AHeader};
 ghost use Rattle.fbc_cache.specs.Cache.{copy_in};
-ghost use Rattle.fbc_cache.specs.Readers.{cell_shown, header_number, is_taken_in, number_at, place_in, slot_shown, state_shown, tips_in};
+ghost use Rattle.fbc_cache.specs.Readers.{header_number, is_taken_in, number_at, place_in, slot_shown, state_shown, tips_in};
 ghost use Rattle.fbc_cache.specs.Remembered.{pointers_of};
 
 use crate::cache::Cache;
-use fbc_kinds::{Cell, Flag, Header, Page, State, Value};
+use fbc_kinds::{Header, Page, State};
 
 /// Where a page stands.
 #[derive(Clone, Copy, Debug, PartialEq, Eq)]
@@ -173,21 +172,6 @@ impl Cache {
             _ => 0,
         }
     }
-
-    /// What stands in the cell of the data page.
-    pub fn cell(&self, page: u32, k: u16) -> Cell
-        ensures { result ≡ cell_shown self.now page k }
-    {
-        match self.page(page) {
-            Some(Page::Data(data)) => {
-                match data.cells.items().get(k as usize) {
-                    Some(cell) => *cell,
-                    None => empty_cell(),
-                }
-            }
-            _ => empty_cell(),
-        }
-    }
 }
 
 /// The header, where the copy is one.
@@ -207,18 +191,5 @@ fn number_at(numbers: &[u32], place: u32) -> u32
     match numbers.get(place as usize) {
         Some(number) => *number,
         None => 0,
-    }
-}
-
-/// A cell without a version.
-fn empty_cell() -> Cell
-    ensures { result ≡ empty_cell }
-{
-    Cell {
-        flag: Flag::Empty,
-        number: 0,
-        back_page: 0,
-        back_cell: 0,
-        value: Value::new(&[]),
     }
 }

@@ -1,6 +1,6 @@
 //! The pointer pages of every relation, as the header last showed them.
 
-ghost use Rattle.std.specs.Prelude.{◌≡◌, ◌≤◌, [], IfOk, length, map, slice_get};
+ghost use Rattle.std.specs.Prelude.{◌≡◌, ◌≤◌, [], IfOk, length, map};
 ghost use Rattle.fbc_kinds.specs.declared.pages.Relation.{Relation as ARelation};
 ghost use Rattle.fbc_cache.specs.Remembered.{AreFew, pointers_of};
 

@@ -1,144 +1,140 @@
 //! The order of writes: pairs of pages, which page comes first, and how many have room.
 
-use crate::graph_tests::Step::{Blocked, Clear, HasRoom, Next, Relate};
+use crate::graph_tests::Step::{Clear, HasRoom, IsBlocked, Next, Relate};
 use fbc_precedence::Related::{Already, Recorded, WriteFirst};
 use fbc_precedence::{Graph, Related};
 use std::process::Abort;
 use std::test::Fail;
 
-/// A call of the graph, and last what it is to answer, if it answers.
-#[derive(Clone, Copy, Debug)]
+/// A call of the graph.
+#[derive(Clone, Copy)]
 enum Step {
     /// The first page is to be written before the second.
-    Relate(u32, u32, Related),
+    Relate(u32, u32),
     /// The pairs of the page are gone.
     Clear(u32),
     /// The page that is to be written next for this one.
-    Next(u32, u32),
-    Blocked(u32, bool),
-    HasRoom(u32, u32, bool),
+    Next(u32),
+    IsBlocked(u32),
+    HasRoom(u32, u32),
 }
 
-/// Takes the steps in turn.
-fn play(rt: &impl Abort, graph: &mut Graph, steps: &[Step]) {
-    for step in steps {
-        take(rt, graph, step);
+/// What the graph answers.
+#[derive(Clone, Copy, Debug, PartialEq, Eq)]
+enum Seen {
+    Done,
+    Pair(Related),
+    Page(u32),
+    Is(bool),
+}
+
+/// A call, and what the graph answers.
+type Row = (Step, Seen);
+
+/// Asserts what the graph answers to each call in turn.
+fn check(rt: &impl Abort, graph: &mut Graph, rows: &[Row]) {
+    for (at, (step, seen)) in rows.iter().enumerate() {
+        assert_eq!(*rt; take_step(rt, graph, step), *seen, "row {at}");
     }
 }
 
-fn take(rt: &impl Abort, graph: &mut Graph, step: &Step) {
+/// Makes the call. Pages that are related differ and have room.
+fn take_step(rt: &impl Abort, graph: &mut Graph, step: &Step) -> Seen {
     match step {
-        Relate(high, low, answer) => {
-            assert_eq!(*rt; relate(rt, graph, *high, *low), *answer, "{step:?}");
+        Relate(high, low) => {
+            assert!(*rt; *high != *low);
+            assert!(*rt; graph.has_room(*high, *low));
+            Seen::Pair(graph.relate(*high, *low))
         }
-        Clear(page) => graph.clear(*page),
-        Next(page, first) => {
-            assert_eq!(*rt; graph.next_to_write(*page), *first, "{step:?}");
+        Clear(page) => {
+            graph.clear(*page);
+            Seen::Done
         }
-        Blocked(page, is_blocked) => {
-            assert_eq!(*rt; graph.blocked(*page), *is_blocked, "{step:?}");
-        }
-        HasRoom(high, low, has_room) => {
-            assert_eq!(*rt; graph.has_room(*high, *low), *has_room, "{step:?}");
-        }
+        Next(page) => Seen::Page(graph.next_to_write(*page)),
+        IsBlocked(page) => Seen::Is(graph.blocked(*page)),
+        HasRoom(high, low) => Seen::Is(graph.has_room(*high, *low)),
     }
 }
 
-/// Relates the pages, which differ and have room.
-fn relate(rt: &impl Abort, graph: &mut Graph, high: u32, low: u32) -> Related {
-    assert!(*rt; high != low);
-    assert!(*rt; graph.has_room(high, low));
-    graph.relate(high, low)
-}
-
-const PAIRS: &[Step] = &[
-    Relate(1, 4, Recorded),
-    Relate(4, 3, Recorded),
-    Relate(1, 3, Already),
-    Relate(3, 1, WriteFirst { page: 1 }),
-    Next(3, 1),
-    Clear(1),
-    Next(3, 4),
+/// Pairs are recorded once, and in no circle.
+const PAIRS: &[Row] = &[
+    (Relate(1, 4), Seen::Pair(Recorded)),
+    (Relate(4, 3), Seen::Pair(Recorded)),
+    (Relate(1, 3), Seen::Pair(Already)),
+    (Relate(3, 1), Seen::Pair(WriteFirst { page: 1 })),
+    (Next(3), Seen::Page(1)),
+    (Clear(1), Seen::Done),
+    (Next(3), Seen::Page(4)),
 ];
 
+/// Two ways lead to one page.
+const WAYS: &[Row] = &[
+    (Relate(3, 5), Seen::Pair(Recorded)),
+    (Relate(2, 5), Seen::Pair(Recorded)),
+    (Relate(9, 3), Seen::Pair(Recorded)),
+    (Relate(9, 2), Seen::Pair(Recorded)),
+    (Relate(9, 5), Seen::Pair(Already)),
+    (Relate(2, 3), Seen::Pair(Recorded)),
+    (Relate(3, 2), Seen::Pair(WriteFirst { page: 2 })),
+    (Relate(5, 9), Seen::Pair(WriteFirst { page: 9 })),
+    (Next(5), Seen::Page(9)),
+    (Next(3), Seen::Page(9)),
+    (Next(2), Seen::Page(9)),
+    (Next(9), Seen::Page(9)),
+    (Next(7), Seen::Page(7)),
+    (IsBlocked(5), Seen::Is(true)),
+    (IsBlocked(3), Seen::Is(true)),
+    (IsBlocked(2), Seen::Is(true)),
+    (IsBlocked(9), Seen::Is(false)),
+    (IsBlocked(7), Seen::Is(false)),
+];
+
+/// The least of the free pages comes first.
+const FREE: &[Row] = &[
+    (Relate(8, 2), Seen::Pair(Recorded)),
+    (Relate(6, 2), Seen::Pair(Recorded)),
+    (Relate(7, 2), Seen::Pair(Recorded)),
+    (Relate(1, 3), Seen::Pair(Recorded)),
+    (Next(2), Seen::Page(6)),
+    (Clear(6), Seen::Done),
+    (Next(2), Seen::Page(7)),
+    (Clear(7), Seen::Done),
+    (Next(2), Seen::Page(8)),
+    (Clear(8), Seen::Done),
+    (Next(2), Seen::Page(2)),
+    (Next(3), Seen::Page(1)),
+];
+
+/// A page in the middle is cleared.
+const MIDDLE: &[Row] = &[
+    (Relate(5, 4), Seen::Pair(Recorded)),
+    (Relate(4, 3), Seen::Pair(Recorded)),
+    (Relate(3, 2), Seen::Pair(Recorded)),
+    (HasRoom(5, 2), Seen::Is(true)),
+    (HasRoom(2, 6), Seen::Is(false)),
+    (Clear(4), Seen::Done),
+    (Next(2), Seen::Page(3)),
+    (IsBlocked(4), Seen::Is(false)),
+    (HasRoom(2, 6), Seen::Is(true)),
+    (Relate(2, 3), Seen::Pair(WriteFirst { page: 3 })),
+    (Relate(2, 5), Seen::Pair(Recorded)),
+    (Relate(3, 5), Seen::Pair(Already)),
+];
+
+/// Graphs of so many pages, and the calls of each.
+const TABLES: &[(u32, &'static [Row])] = &[(24, PAIRS), (24, WAYS), (24, FREE), (4, MIDDLE)];
+
 #[test]
-fn pairs_are_recorded_once_and_in_no_circle(rt: HostRuntime) -> Result<(), Fail> {
-    let mut graph = Graph::new(rt.alloc(), 24)?;
-    play(&rt, &mut graph, PAIRS);
+fn pages_are_written_in_order(rt: HostRuntime) -> Result<(), Fail> {
+    for (pages, rows) in TABLES {
+        let mut graph = Graph::new(rt.alloc(), *pages)?;
+        check(&rt, &mut graph, rows);
+    }
     Ok(())
 }
 
-const WAYS: &[Step] = &[
-    Relate(3, 5, Recorded),
-    Relate(2, 5, Recorded),
-    Relate(9, 3, Recorded),
-    Relate(9, 2, Recorded),
-    Relate(9, 5, Already),
-    Relate(2, 3, Recorded),
-    Relate(3, 2, WriteFirst { page: 2 }),
-    Relate(5, 9, WriteFirst { page: 9 }),
-    Next(5, 9),
-    Next(3, 9),
-    Next(2, 9),
-    Next(9, 9),
-    Next(7, 7),
-    Blocked(5, true),
-    Blocked(3, true),
-    Blocked(2, true),
-    Blocked(9, false),
-    Blocked(7, false),
-];
-
-#[test]
-fn two_ways_to_one_page(rt: HostRuntime) -> Result<(), Fail> {
-    let mut graph = Graph::new(rt.alloc(), 24)?;
-    play(&rt, &mut graph, WAYS);
-    Ok(())
-}
-
-const FREE: &[Step] = &[
-    Relate(8, 2, Recorded),
-    Relate(6, 2, Recorded),
-    Relate(7, 2, Recorded),
-    Relate(1, 3, Recorded),
-    Next(2, 6),
-    Clear(6),
-    Next(2, 7),
-    Clear(7),
-    Next(2, 8),
-    Clear(8),
-    Next(2, 2),
-    Next(3, 1),
-];
-
-#[test]
-fn the_least_of_the_free_pages_comes_first(rt: HostRuntime) -> Result<(), Fail> {
-    let mut graph = Graph::new(rt.alloc(), 24)?;
-    play(&rt, &mut graph, FREE);
-    Ok(())
-}
-
-const MIDDLE: &[Step] = &[
-    Relate(5, 4, Recorded),
-    Relate(4, 3, Recorded),
-    Relate(3, 2, Recorded),
-    HasRoom(5, 2, true),
-    HasRoom(2, 6, false),
-    Clear(4),
-    Next(2, 3),
-    Blocked(4, false),
-    HasRoom(2, 6, true),
-    Relate(2, 3, WriteFirst { page: 3 }),
-    Relate(2, 5, Recorded),
-    Relate(3, 5, Already),
-];
-
-#[test]
-fn a_page_in_the_middle_is_cleared(rt: HostRuntime) -> Result<(), Fail> {
-    let mut graph = Graph::new(rt.alloc(), 4)?;
-    play(&rt, &mut graph, MIDDLE);
-    Ok(())
-}
+/// Behind a chain of all 24 pages there is no room, and its first one comes first.
+const FULL: &[Row] = &[(HasRoom(24, 0), Seen::Is(false)), (Next(0), Seen::Page(23))];
 
 #[test]
 fn the_memory_is_taken_at_once(rt: HostRuntime) -> Result<(), Fail> {
@@ -146,8 +142,9 @@ fn the_memory_is_taken_at_once(rt: HostRuntime) -> Result<(), Fail> {
     assert!(rt; Graph::new(rt.alloc(), 512).is_ok());
     let mut graph = Graph::new(rt.alloc(), 24)?;
     for page in 1..24 {
-        take(&rt, &mut graph, &Relate(page, page - 1, Recorded));
+        let related = take_step(&rt, &mut graph, &Relate(page, page - 1));
+        assert_eq!(rt; related, Seen::Pair(Recorded));
     }
-    play(&rt, &mut graph, &[HasRoom(24, 0, false), Next(0, 23)]);
+    check(&rt, &mut graph, FULL);
     Ok(())
 }

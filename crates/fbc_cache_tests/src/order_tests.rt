@@ -1,115 +1,109 @@
 //! The order in which dirty pages are written.
 
-use crate::caches::empty_cache;
-use crate::wants::{Step, check, fresh, need};
-use fbc_cache::{Cache, CacheFault, Edited};
-use fbc_kinds::Edit;
-use fbc_levels::Level;
+use crate::driver::{Scene, bring, cache_of, check, play};
+use crate::steps::Question::{Dirty, HasPairs, MayWant, Place, Victim};
+use crate::steps::{Change, Row, Seen, Step};
+use fbc_cache::Cache;
+use fbc_kinds::Edge;
+use fbc_levels::Level::{Ex, Free, Pr};
+use fbc_world::Cause;
 use std::process::Abort;
+use std::test::Fail;
 
-/// Formats the page, which the high pages are to be written before, as the empty transaction inventory page of that sequence.
-fn format(
-    rt: &impl Abort,
-    cache: &mut Cache,
-    page: u32,
-    sequence: u32,
-    highs: &[u32],
-) -> Result<Edited, CacheFault> {
-    let edit = Edit::Format {
-        kind: 3,
-        page,
-        relation: 0,
-        sequence,
-    };
-    assert!(rt; cache.may_edit(page, &edit)?);
-    Ok(cache.edit(page, edit, highs)?)
-}
+/// The pairs of the pages that are formatted, the oldest first.
+const PAIRS: &[Edge] = &[Edge { high: 10, low: 11 }, Edge { high: 11, low: 12 }];
 
-/// Pages that are formatted, their sequences, the pages that are to be written before them, and what that comes to.
-const FORMATS: &[(u32, u32, &'static [u32], Edited)] = &[
-    (10, 1, &[11, 12], Edited::Done),
-    (11, 1, &[10, 11], Edited::Done),
-    (12, 1, &[11], Edited::Done),
-    (12, 2, &[10], Edited::Done),
-    (10, 2, &[12], Edited::WriteFirst { page: 10, high: 12 }),
+/// Pages 10, 11 and 12 are formatted, so that 10 is to be written before 11, and 11 before 12.
+const FORMATTED: &[Row] = &[
+    (Step::Make(10), Seen::Lock(10, Ex)),
+    (Step::Make(10), Seen::Here),
+    (Step::Pin(10), Seen::Done),
+    (Step::Make(11), Seen::Lock(11, Ex)),
+    (Step::Make(11), Seen::Here),
+    (Step::Pin(11), Seen::Done),
+    (Step::Make(12), Seen::Lock(12, Ex)),
+    (Step::Make(12), Seen::Here),
+    (Step::Pin(12), Seen::Done),
+    (
+        Step::Edit(10, Change::Format(3, 1), &[11, 12]),
+        Seen::Edited,
+    ),
+    (
+        Step::Edit(11, Change::Format(3, 1), &[10, 11]),
+        Seen::Edited,
+    ),
+    (Step::Edit(12, Change::Format(3, 1), &[11]), Seen::Edited),
+    (Step::Edit(12, Change::Format(3, 2), &[10]), Seen::Edited),
+    (
+        Step::Edit(10, Change::Format(3, 2), &[12]),
+        Seen::WriteFirst(10, 12),
+    ),
+    (Step::See(Place(10)), Seen::Place(3, 1)),
+    (Step::See(Place(12)), Seen::Place(3, 2)),
+    (Step::See(HasPairs(PAIRS)), Seen::Is(true)),
 ];
 
-/// Formats pages 10, 11 and 12, which are pinned and held in EX, so that 10 is to be written before 11, and 11 before 12.
-fn dirty_pages(rt: &impl Abort, cache: &mut Cache) -> Result<(), CacheFault> {
-    for page in 10..13 {
-        let steps = [Step::Lock(page, Level::Ex), Step::Use];
-        check(rt, cache, fresh(page), &[0; 1024], &steps)?;
-        cache.pin(page);
-    }
-    for (page, sequence, highs, edited) in FORMATS {
-        assert_eq!(rt; format(rt, cache, *page, *sequence, highs)?, *edited);
-    }
-    assert_eq!(rt;
-        (cache.place(10).sequence, cache.place(12).sequence),
-        (1, 2)
-    );
-    Ok(())
+/// Pages 12, 10 and 11 are used in turn, and in use no more.
+const USED: &[Row] = &[
+    (Step::Pin(12), Seen::Done),
+    (Step::Unpin(12), Seen::Done),
+    (Step::Pin(10), Seen::Done),
+    (Step::Unpin(10), Seen::Done),
+    (Step::Pin(11), Seen::Done),
+    (Step::Unpin(11), Seen::Done),
+];
+
+/// The page is read in the place of a clean one.
+fn replace(rt: &impl Abort, cache: &mut Cache, page: u32, victim: u32) -> Result<(), Fail> {
+    let given_up = (Step::Want(page, Pr), Seen::Lower(victim, Free));
+    check(rt, cache, "a clean page gives way", &[], &[given_up])?;
+    bring(rt, cache, page, page.saturating_add(1))
 }
 
-/// Wants so many pages, from the first one on. Each is read in the place of a clean page, from the victim on.
-fn replace_clean(
-    rt: &impl Abort,
-    cache: &mut Cache,
-    count: u32,
-    first: u32,
-    victim: u32,
-) -> Result<(), CacheFault> {
-    for i in 0..count {
-        let page = first.saturating_add(i);
-        let steps = [
-            Step::Lower(victim.saturating_add(i)),
-            Step::Lock(page, Level::Pr),
-            Step::Read(page),
-            Step::Use,
-        ];
-        check(rt, cache, need(page, Level::Pr), &[0; 1024], &steps)?;
-    }
-    Ok(())
-}
+/// Why the pages are written.
+const FOR_61: Cause = Cause::Evict { wanted: 61 };
 
-/// The write of a page in order that page 61 is read.
-fn write(page: u32) -> Step {
-    Step::Write { page, wanted: 61 }
-}
+/// Page 12 gives way for page 61.
+const WRITTEN: &[Row] = &[
+    (Step::See(Dirty), Seen::Page(Some(10))),
+    (Step::See(Victim), Seen::Page(Some(12))),
+    (Step::Want(61, Pr), Seen::Write(10, FOR_61)),
+    (Step::Want(61, Pr), Seen::Write(11, FOR_61)),
+    (Step::Want(61, Pr), Seen::Write(12, FOR_61)),
+    (Step::Want(61, Pr), Seen::Lower(12, Free)),
+    (Step::Want(61, Pr), Seen::Lock(61, Pr)),
+    (Step::Want(61, Pr), Seen::Read(61)),
+    (Step::Want(61, Pr), Seen::Here),
+    (Step::See(Dirty), Seen::Page(None)),
+    (Step::See(Victim), Seen::Page(Some(10))),
+];
 
 #[test]
-fn a_dirty_victim_is_written_after_those_before_it(rt: HostRuntime) -> Result<(), CacheFault> {
-    let mut cache = empty_cache(&rt, rt.alloc(), 24)?;
-    dirty_pages(&rt, &mut cache)?;
-    for page in 13..34 {
-        let steps = [Step::Lock(page, Level::Pr), Step::Read(page), Step::Use];
-        check(&rt, &mut cache, need(page, Level::Pr), &[0; 1024], &steps)?;
+fn a_dirty_victim_is_written_after_those_before_it(rt: HostRuntime) -> Result<(), Fail> {
+    let mut cache = cache_of(&rt, rt.alloc(), 24)?;
+    check(&rt, &mut cache, "pages are formatted", &[], FORMATTED)?;
+    bring(&rt, &mut cache, 13, 34)?;
+    check(&rt, &mut cache, "pages are used", &[], USED)?;
+    for (page, victim) in (40..61).zip(13..34) {
+        replace(&rt, &mut cache, page, victim)?;
     }
-    for page in [12, 10, 11] {
-        cache.pin(page);
-        cache.unpin(page);
-    }
-    replace_clean(&rt, &mut cache, 21, 40, 13)?;
-    assert_eq!(rt; (cache.dirty(), cache.victim()), (Some(10), Some(12)));
-    let steps = [
-        write(10),
-        write(11),
-        write(12),
-        Step::Lower(12),
-        Step::Lock(61, Level::Pr),
-        Step::Read(61),
-        Step::Use,
-    ];
-    check(&rt, &mut cache, need(61, Level::Pr), &[0; 1024], &steps)?;
-    assert_eq!(rt; (cache.dirty(), cache.victim()), (None, Some(10)));
-    Ok(())
+    check(&rt, &mut cache, "page 12 gives way", &[], WRITTEN)
 }
 
+/// No page may give way for page 40.
+const ALL_IN_USE: &[Row] = &[
+    (Step::See(Victim), Seen::Page(None)),
+    (Step::See(MayWant(40, Pr)), Seen::Is(false)),
+];
+
+const SCENES: &[Scene] = &[Scene {
+    name: "all pages are in use",
+    buffers: 3,
+    file: &[],
+    tables: &[FORMATTED, ALL_IN_USE],
+}];
+
 #[test]
-fn no_page_gives_way_where_all_are_in_use(rt: HostRuntime) -> Result<(), CacheFault> {
-    let mut cache = empty_cache(&rt, rt.alloc(), 3)?;
-    dirty_pages(&rt, &mut cache)?;
-    assert_eq!(rt; cache.victim(), None);
-    assert!(rt; !cache.may_want(&need(40, Level::Pr)));
-    Ok(())
+fn no_page_gives_way_where_all_are_in_use(rt: HostRuntime) -> Result<(), Fail> {
+    play(&rt, rt.alloc(), SCENES)
 }

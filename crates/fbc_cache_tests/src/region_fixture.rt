@@ -2,22 +2,21 @@
 
 ghost use Rattle.std.specs.Prelude.{◌≡◌, vec_len};
 
-use crate::callbacks::{EditOf, Step, need};
-use crate::pages::{PAGE, fresh, pages_in_turn, shape};
-use crate::shaped_cache::ShapedCache;
-use fbc_cache::{Edited, Need, Want};
-use fbc_downgrade::Serving;
-use fbc_kinds::Edit;
+use crate::driver::{PAGE, cache_of, edit_of, fresh, need, seen_of};
+use crate::steps::{Change, Seen};
+use fbc_cache::{Cache, Edited, Need, Want};
+use fbc_downgrade::{Serving, serve};
 use fbc_levels::{Callback, Level};
 use fbc_outside::MemoryDevice;
 use fbc_region::{Chronicle, Region};
+use fbc_samples::{FRESH, file_of, shape};
 use fbc_world::{Answer, Ask, LocalEvent};
 use std::alloc::Global;
 use std::process::Abort;
 use std::test::Fail;
 
-/// How far the device reaches, in bytes.
-const REACH: u64 = 262_144;
+/// How far the device reaches, in bytes: as many pages as the file may have.
+const REACH: u64 = 102_400;
 
 /// A region over the fresh file, with the buffer through which its pages go.
 #[derive(Drop)]
@@ -31,11 +30,16 @@ pub(crate) struct Fixture {
 
 impl Fixture {
     pub(crate) fn new(rt: &impl Abort, alloc: Global) -> Result<Fixture, Fail> {
-        let file = pages_in_turn(alloc, &[fresh(0), fresh(1), fresh(2), fresh(3)])?;
-        assert!(*rt; file.len() == 4096);
-        let device = MemoryDevice::new(alloc, file, REACH, Vec::new(alloc))?;
-        let journal = Chronicle::new(alloc, &shape(rt))?;
-        let region = Region::new(alloc, device, 1024, 16, journal)?;
+        let device = MemoryDevice::new(
+            alloc,
+            file_of(alloc, 4096, FRESH)?,
+            REACH,
+            Vec::new(alloc),
+        )?;
+        let Some(shape) = shape() else {
+            panic!(*rt; "the sample has a shape");
+        };
+        let region = Region::new(alloc, device, 1024, 16, Chronicle::new(alloc, &shape)?)?;
         let image = vec![in alloc; 0; PAGE]?;
         Ok(Fixture {
             alloc,
@@ -45,7 +49,7 @@ impl Fixture {
     }
 
     /// The answer to a step that the owner may take, behind what it did in its cache.
-    pub(crate) fn step(
+    fn step(
         &mut self,
         rt: &impl Abort,
         who: u32,
@@ -53,7 +57,7 @@ impl Fixture {
         ask: Ask,
     ) -> Result<Answer, Fail> {
         self.region.reserve(1)?;
-        let may = self.region.may_perform(self.alloc, who, &ask)?;
+        let may = self.region.may_perform(who, &ask);
         assert!(*rt; may);
         assert!(*rt; events.len() <= 64);
         Ok(
@@ -63,17 +67,42 @@ impl Fixture {
     }
 
     /// The owner dies, which is alive.
-    pub(crate) fn die(&mut self, rt: &impl Abort, who: u32) {
-        assert!(*rt; self.region.journal().alive(who));
+    fn die(&mut self, rt: &impl Abort, who: u32) {
+        assert!(*rt; self.region.alive(who));
         self.region.die(who);
     }
 }
+
+/// A step of an owner.
+#[derive(Clone, Copy)]
+pub(crate) enum Move {
+    /// It wants the page in EX.
+    Want(u32),
+    /// It wants to format the page.
+    Make(u32),
+    /// It changes a page that it holds, after these pages, and uses it for that alone.
+    Edit(u32, Change, &'static [u32]),
+    /// Whether it is called back.
+    IsCalled,
+    /// It asks for the next callback.
+    Poll,
+    /// It serves the callback of page 3 for owner 2.
+    Serve,
+    Die,
+}
+
+/// The callback that is served.
+const CALLED: Callback = Callback {
+    page: 3,
+    keep: Level::Free,
+    asker: 2,
+};
 
 /// An owner: its cache, and what it did in it since its last step.
 #[derive(Drop)]
 pub(crate) struct Owner {
     who: u32,
-    own: ShapedCache,
+    own: Cache,
     events: Vec<LocalEvent>,
 }
 
@@ -88,9 +117,30 @@ impl Owner {
         assert_eq!(*rt; fixture.step(rt, who, &[], ask)?, Answer::Noted);
         Ok(Owner {
             who,
-            own: ShapedCache::new(rt, fixture.alloc)?,
+            own: cache_of(rt, fixture.alloc, 8)?,
             events: Vec::new(fixture.alloc),
         })
+    }
+
+    /// Takes a step.
+    pub(crate) fn take(
+        &mut self,
+        rt: &impl Abort,
+        fixture: &mut Fixture,
+        step: &Move,
+    ) -> Result<Seen, Fail> {
+        match step {
+            Move::Want(page) => self.want(rt, fixture, need(*page, Level::Ex)),
+            Move::Make(page) => self.want(rt, fixture, fresh(*page)),
+            Move::Edit(page, change, highs) => self.edit(rt, *page, change, highs),
+            Move::IsCalled => Ok(Seen::Is(fixture.region.called(self.who))),
+            Move::Poll => Ok(answered(&self.step(rt, fixture, Ask::Poll { above: None })?)),
+            Move::Serve => self.serve(rt, fixture),
+            Move::Die => {
+                fixture.die(rt, self.who);
+                Ok(Seen::Done)
+            }
+        }
     }
 
     /// The answer to a step, behind what it did in its cache.
@@ -101,62 +151,42 @@ impl Owner {
     }
 
     /// The answer to a step of its cache, which the cache takes.
-    fn follow(&mut self, rt: &impl Abort, fixture: &mut Fixture, ask: Ask) -> Result<Answer, Fail> {
+    fn follow(&mut self, rt: &impl Abort, fixture: &mut Fixture, ask: Ask) -> Result<Seen, Fail> {
         if let Ask::Write { page, cause: _ } = &ask {
-            self.own.spell(rt, *page, fixture.image.as_mut_slice());
+            self.spell(rt, fixture, *page);
         }
         let taken = copied(&ask);
         let answer = self.step(rt, fixture, ask)?;
-        self.own
-            .take(rt, &taken, &answer, fixture.image.as_slice())?;
-        Ok(answer)
+        assert!(*rt; self.own.page_size() == 1024);
+        self.own.take(&taken, &answer, fixture.image.as_slice())?;
+        Ok(answered(&answer))
     }
 
-    /// The answer to the step that the need comes to; none where the page may be used.
-    pub(crate) fn want(
-        &mut self,
-        rt: &impl Abort,
-        fixture: &mut Fixture,
-        need: Need,
-    ) -> Result<Option<Answer>, Fail> {
-        match self.own.want(rt, need)? {
-            Want::Here => Ok(None),
-            Want::Must(ask) => Ok(Some(self.follow(rt, fixture, ask)?)),
+    /// Spells a page that may be used.
+    fn spell(&self, rt: &impl Abort, fixture: &mut Fixture, page: u32) {
+        assert!(*rt; self.own.page_size() == 1024);
+        assert!(*rt; self.own.has_copy(page));
+        self.own.spell(page, fixture.image.as_mut_slice());
+    }
+
+    /// What the need comes to.
+    fn want(&mut self, rt: &impl Abort, fixture: &mut Fixture, need: Need) -> Result<Seen, Fail> {
+        assert!(*rt; self.own.may_want(&need));
+        match self.own.want(need)? {
+            Want::Here => Ok(Seen::Here),
+            Want::Must(ask) => self.follow(rt, fixture, ask),
         }
     }
 
-    /// Makes the edits in turn, each of a page that it comes to hold in EX.
-    pub(crate) fn edit(
-        &mut self,
-        rt: &impl Abort,
-        fixture: &mut Fixture,
-        edits: &[EditOf],
-    ) -> Result<(), Fail> {
-        for (page, edit, highs) in edits {
-            self.hold(rt, fixture, *page)?;
-            self.edit_held(rt, *page, *edit, highs)?;
-        }
-        Ok(())
-    }
-
-    /// It comes to hold the page in EX.
-    fn hold(&mut self, rt: &impl Abort, fixture: &mut Fixture, page: u32) -> Result<(), Fail> {
-        for _ in 0..3 {
-            if self.want(rt, fixture, need(page, Level::Ex))?.is_none() {
-                return Ok(());
-            }
-        }
-        panic!(*rt; "page {page} may be used");
-    }
-
-    /// Makes the edit of a page that it holds, in use for it alone.
-    fn edit_held(
+    /// Changes a page that it holds, in use for it alone.
+    fn edit(
         &mut self,
         rt: &impl Abort,
         page: u32,
-        edit: Edit,
+        change: &Change,
         highs: &[u32],
-    ) -> Result<(), Fail> {
+    ) -> Result<Seen, Fail> {
+        let edit = edit_of(page, change);
         self.own.pin(page);
         self.events.push(LocalEvent::Pin { page })?;
         for high in highs {
@@ -165,31 +195,41 @@ impl Owner {
                 low: page,
             })?;
         }
-        assert_eq!(*rt; self.own.edit(rt, page, edit, highs)?, Edited::Done);
+        assert!(*rt; self.own.may_edit(page, &edit)?);
+        assert_eq!(*rt; self.own.edit(page, edit, highs)?, Edited::Done);
         self.events.push(LocalEvent::Edit { page, edit })?;
         self.own.unpin(page);
         self.events.push(LocalEvent::Unpin { page })?;
-        Ok(())
-    }
-
-    /// The next callback on its pages.
-    pub(crate) fn poll(&mut self, rt: &impl Abort, fixture: &mut Fixture) -> Result<Answer, Fail> {
-        self.step(rt, fixture, Ask::Poll { above: None })
+        Ok(Seen::Edited)
     }
 
     /// What the callback comes to, once the step that is due is taken.
-    pub(crate) fn serve(
-        &mut self,
-        rt: &impl Abort,
-        fixture: &mut Fixture,
-        callback: Callback,
-    ) -> Result<Step, Fail> {
-        let serving = self.own.serve(callback);
-        let step = Step::of(&serving);
-        if let Serving::Must(ask) = serving {
-            self.follow(rt, fixture, ask)?;
+    fn serve(&mut self, rt: &impl Abort, fixture: &mut Fixture) -> Result<Seen, Fail> {
+        match serve(&mut self.own, CALLED) {
+            Serving::Later => Ok(Seen::Later),
+            Serving::Done => Ok(Seen::Served),
+            Serving::Must(ask) => {
+                let seen = seen_of(&ask);
+                self.follow(rt, fixture, ask)?;
+                Ok(seen)
+            }
         }
-        Ok(step)
+    }
+}
+
+/// What is seen of an answer.
+fn answered(answer: &Answer) -> Seen {
+    match answer {
+        Answer::Granted => Seen::Granted,
+        Answer::Queued => Seen::Queued,
+        Answer::NotYet { holder } => Seen::NotYet(*holder),
+        Answer::Reaped { owner } => Seen::Reaped(*owner),
+        Answer::PageIs { length } => Seen::PageIs(*length),
+        Answer::Callback(callback) => {
+            Seen::Callback(callback.page, callback.keep, callback.asker)
+        }
+        Answer::NoCallback => Seen::NoCallback,
+        _ => Seen::Other,
     }
 }
 

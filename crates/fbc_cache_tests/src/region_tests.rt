@@ -1,48 +1,109 @@
 //! A row of one owner is called back by another, through the shared region.
 
-use crate::callbacks::{ROW, Step, need};
-use crate::pages::{PAGE, Part, bytes_of, fresh, pages_in_turn};
-use crate::region_fixture::{Fixture, Owner};
-use fbc_levels::{Callback, Level};
-use fbc_world::Answer;
+use crate::region_fixture::Move::{Die, Edit, IsCalled, Make, Poll, Serve, Want};
+use crate::region_fixture::{Fixture, Move, Owner};
+use crate::region_tests::Who::{Asker, Holder};
+use crate::steps::{Change, Seen};
+use fbc_levels::Level::Free;
+use fbc_samples::{FRESH, Part, file_of, lay_all, page_of};
+use fbc_world::Cause;
+use std::alloc::Global;
 use std::process::Abort;
 use std::test::Fail;
 
-/// The callback of page 3 for owner 2, which wants it in EX.
-const CALLED: Callback = Callback {
-    page: 3,
-    keep: Level::Free,
-    asker: 2,
-};
-
-/// The pages of the row: page 4 is taken, has no row yet, and is named.
-const TAKEN: [Part; 2] = [(0, &[2, 1, 0, 0, 1]), (16, &[0x1f])];
-
-const EMPTY: [Part; 1] = [(0, &[5, 1, 0, 0, 4])];
-
-const NAMED: [Part; 2] = [(0, &[4, 1, 0, 0, 3]), (16, &[4])];
-
-fn write(page: u32) -> Step {
-    Step::Write { page, asker: 2 }
+/// Owner 1, which holds the pages, or owner 2, which asks for page 3.
+#[derive(Clone, Copy)]
+enum Who {
+    Holder,
+    Asker,
 }
 
-/// Owner 1 has the row in its drafts, owner 2 waits for page 3, and owner 1 learns of it.
-fn called(rt: &impl Abort, fixture: &mut Fixture) -> Result<(Owner, Owner), Fail> {
-    let mut holder = Owner::enter(rt, fixture, 1)?;
-    let mut asker = Owner::enter(rt, fixture, 2)?;
-    holder.edit(rt, fixture, &ROW)?;
-    for answer in [Answer::Queued, Answer::NotYet { holder: 1 }] {
-        let answered = asker.want(rt, fixture, need(3, Level::Ex))?;
-        assert_eq!(*rt; answered, Some(answer));
+/// An owner, its step, and what is seen of it.
+type Row = (Who, Move, Seen);
+
+/// Why the pages are written.
+const CALLED: Cause = Cause::CallbackOf { asker: 2 };
+
+/// Owner 1 has the first row's pages in its drafts, owner 2 waits for page 3, and owner 1 learns of it.
+const DRAFTED: &[Row] = &[
+    (Holder, Want(1), Seen::Granted),
+    (Holder, Want(1), Seen::PageIs(1024)),
+    (Holder, Want(1), Seen::Here),
+    (Holder, Edit(1, Change::Take(4), &[]), Seen::Edited),
+    (Holder, Make(4), Seen::Granted),
+    (Holder, Make(4), Seen::Here),
+    (Holder, Edit(4, Change::Format(5, 0), &[1]), Seen::Edited),
+    (Holder, Want(3), Seen::Granted),
+    (Holder, Want(3), Seen::PageIs(1024)),
+    (Holder, Want(3), Seen::Here),
+    (Holder, Edit(3, Change::Name(0, 4), &[4]), Seen::Edited),
+    (Asker, Want(3), Seen::Queued),
+    (Asker, Want(3), Seen::NotYet(1)),
+    (Holder, IsCalled, Seen::Is(true)),
+    (Holder, Poll, Seen::Callback(3, Free, 2)),
+];
+
+/// The pages are written in order, and page 3 is given up.
+const GIVEN_UP: &[Row] = &[
+    (Holder, Serve, Seen::Write(1, CALLED)),
+    (Holder, Serve, Seen::Write(4, CALLED)),
+    (Holder, Serve, Seen::Write(3, CALLED)),
+    (Holder, Serve, Seen::Lower(3, Free)),
+    (Holder, Serve, Seen::Served),
+    (Holder, Poll, Seen::NoCallback),
+    (Asker, Want(3), Seen::Granted),
+    (Asker, Want(3), Seen::PageIs(1024)),
+    (Asker, Want(3), Seen::Here),
+];
+
+/// Owner 1 dies when one page is written.
+const DIED: &[Row] = &[
+    (Holder, Serve, Seen::Write(1, CALLED)),
+    (Holder, Die, Seen::Done),
+    (Asker, Want(3), Seen::Reaped(1)),
+    (Asker, Want(3), Seen::Granted),
+    (Asker, Want(3), Seen::PageIs(1024)),
+    (Asker, Want(3), Seen::Here),
+];
+
+/// The steps of both owners over the fresh file.
+fn play(rt: &impl Abort, alloc: Global, tables: &[&[Row]]) -> Result<Fixture, Fail> {
+    let mut fixture = Fixture::new(rt, alloc)?;
+    let mut holder = Owner::enter(rt, &mut fixture, 1)?;
+    let mut asker = Owner::enter(rt, &mut fixture, 2)?;
+    for rows in tables {
+        check(rt, &mut fixture, &mut holder, &mut asker, rows)?;
     }
-    assert!(*rt; fixture.region.called(1));
-    assert_eq!(*rt; holder.poll(rt, fixture)?, Answer::Callback(CALLED));
-    Ok((holder, asker))
+    Ok(fixture)
 }
 
-/// Asserts that these are the pages of the file.
-fn check_file(rt: &impl Abort, fixture: Fixture, pages: &[[u8; PAGE]]) -> Result<(), Fail> {
-    let wanted = pages_in_turn(fixture.alloc, pages)?;
+/// Asserts what is seen of each step in turn.
+fn check(
+    rt: &impl Abort,
+    fixture: &mut Fixture,
+    holder: &mut Owner,
+    asker: &mut Owner,
+    rows: &[Row],
+) -> Result<(), Fail> {
+    for (at, (who, step, seen)) in rows.iter().enumerate() {
+        let answered = match who {
+            Holder => holder.take(rt, fixture, step)?,
+            Asker => asker.take(rt, fixture, step)?,
+        };
+        assert_eq!(*rt; answered, *seen, "row {at}");
+    }
+    Ok(())
+}
+
+/// Asserts what stands in the file: the fresh one, with so many bytes and these changes.
+fn check_file(
+    rt: &impl Abort,
+    fixture: Fixture,
+    length: usize,
+    changes: &[Part],
+) -> Result<(), Fail> {
+    let mut wanted = file_of(fixture.alloc, length, FRESH)?;
+    lay_all(changes, wanted.as_mut_slice());
     let Fixture {
         alloc: _,
         region,
@@ -53,53 +114,24 @@ fn check_file(rt: &impl Abort, fixture: Fixture, pages: &[[u8; PAGE]]) -> Result
     Ok(())
 }
 
+/// What stands in the file once page 1 is written: page 4 is taken.
+const TAKEN: &[Part] = &[(1040, &[0x1f])];
+
+/// And once pages 4 and 3 are: page 4 has no row yet, and is named.
+const NAMED: &[Part] = &[(1040, &[0x1f]), (3088, &[4]), (4096, &[5, 1, 0, 0, 4])];
+
 #[test]
 fn a_row_is_written_in_order_and_given_up(rt: HostRuntime) -> Result<(), Fail> {
-    let mut fixture = Fixture::new(&rt, rt.alloc())?;
-    let (mut holder, mut asker) = called(&rt, &mut fixture)?;
-    let lower = Step::Lower {
-        page: 3,
-        level: Level::Free,
-    };
-    for step in [write(1), write(4), write(3), lower, Step::Done] {
-        assert_eq!(rt; holder.serve(&rt, &mut fixture, CALLED)?, step);
-    }
-    assert_eq!(rt; holder.poll(&rt, &mut fixture)?, Answer::NoCallback);
-    for answer in [
-        Some(Answer::Granted),
-        Some(Answer::PageIs { length: 1024 }),
-        None,
-    ] {
-        let answered = asker.want(&rt, &mut fixture, need(3, Level::Ex))?;
-        assert_eq!(rt; answered, answer);
-    }
-    assert_eq!(rt; fixture.image.as_slice(), bytes_of(&NAMED).as_slice());
-    let pages = [
-        fresh(0),
-        bytes_of(&TAKEN),
-        fresh(2),
-        bytes_of(&NAMED),
-        bytes_of(&EMPTY),
-    ];
-    check_file(&rt, fixture, &pages)
+    let fixture = play(&rt, rt.alloc(), &[DRAFTED, GIVEN_UP])?;
+    let named = page_of(FRESH, 3, &[(16, &[4])]);
+    assert_eq!(rt; fixture.image.as_slice(), named.as_slice());
+    check_file(&rt, fixture, 5120, NAMED)
 }
 
 #[test]
 fn a_death_leaves_what_was_written_by_then(rt: HostRuntime) -> Result<(), Fail> {
-    let mut fixture = Fixture::new(&rt, rt.alloc())?;
-    let (mut holder, mut asker) = called(&rt, &mut fixture)?;
-    assert_eq!(rt; holder.serve(&rt, &mut fixture, CALLED)?, write(1));
-    fixture.die(&rt, 1);
-    for answer in [
-        Some(Answer::Reaped { owner: 1 }),
-        Some(Answer::Granted),
-        Some(Answer::PageIs { length: 1024 }),
-        None,
-    ] {
-        let answered = asker.want(&rt, &mut fixture, need(3, Level::Ex))?;
-        assert_eq!(rt; answered, answer);
-    }
-    assert_eq!(rt; fixture.image.as_slice(), fresh(3).as_slice());
-    let pages = [fresh(0), bytes_of(&TAKEN), fresh(2), fresh(3)];
-    check_file(&rt, fixture, &pages)
+    let fixture = play(&rt, rt.alloc(), &[DRAFTED, DIED])?;
+    let unnamed = page_of(FRESH, 3, &[]);
+    assert_eq!(rt; fixture.image.as_slice(), unnamed.as_slice());
+    check_file(&rt, fixture, 4096, TAKEN)
 }

@@ -87,7 +87,9 @@ fn read_cells(
     requires fair { any_piece (is_bad_cell greatest) (12 + greatest) count bytes.now ≡ false }
     ensures count { IfOk result (λ cells. count_of cells.items ≡ count) }
     ensures fits { IfOk result (λ cells. All (IsCell greatest) cells.items) }
-    ensures cell { IfOk result (λ cells. (k : ℕ) → k < count → SpellsCell greatest (slice_index_or cells.items k empty_cell) (piece (12 + greatest) k bytes.now)) }
+    ensures cell { IfOk result (λ cells. (k : ℕ)
+        → k < count
+        → SpellsCell greatest (slice_index_or cells.items k empty_cell) (piece (12 + greatest) k bytes.now)) }
 {
     let mut cells = Vec::with_capacity(alloc, count)?;
     for k in 0..count {

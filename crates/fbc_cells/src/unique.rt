@@ -16,7 +16,14 @@ pub fn one_pointer()
 
 /// The law of data pages.
 pub fn one_data()
-    ensures spelling { (size greatest : ℕ) (page : Data) (a b : List ℕ) → IsPageSize size → SpellsData size greatest page a → SpellsData size greatest page b → a ≡ b }
+    ensures spelling { (size greatest : ℕ) (page : Data) (a b : List ℕ)
+        → IsPageSize size
+        → SpellsData size greatest page a
+        → SpellsData size greatest page b
+        → a ≡ b }
     ensures page { (size greatest : ℕ) (a b : Data) (bytes : List ℕ) → SpellsData size greatest a bytes → SpellsData size greatest b bytes → a ≡ b }
-    ensures unbroken { (size greatest : ℕ) (page : Data) (bytes : List ℕ) → IsPageSize size → SpellsData size greatest page bytes → broken_data size greatest page.page bytes ≡ None }
+    ensures unbroken { (size greatest : ℕ) (page : Data) (bytes : List ℕ)
+        → IsPageSize size
+        → SpellsData size greatest page bytes
+        → broken_data size greatest page.page bytes ≡ None }
 {}

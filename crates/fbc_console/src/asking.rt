@@ -1,9 +1,7 @@
 //! What the script of a source asks for.
 
-ghost use Rattle.std.specs.Prelude.{◌≡◌, ◌<◌, ◌≤◌, Some, length, IfOk, IfErr, OnOk};
-ghost use Rattle.fbc_outside.specs.Faults.{Rose};
-ghost use Rattle.fbc_script.specs.Scripts.{IsScript, TellsFault};
-ghost use Rattle.fbc_script.specs.SingleTransaction.{Asks};
+ghost use Rattle.std.specs.Prelude.{◌≡◌, ◌<◌, Some, length, IfOk, IfErr, OnOk};
+ghost use Rattle.fbc_outside.specs.Frames.{IsBlamedFairly};
 ghost use Rattle.fbc_console.specs.Bytes.{IsEmpty};
 ghost use Rattle.fbc_console.specs.Script.{TakesAtMost};
 ghost use Rattle.fbc_console.specs.Asking.{HasAsked, IsPlayable, WhyNotAsked, SpellsAsked, WhyNotSpelled};
@@ -24,8 +22,7 @@ pub fn read_asked<S: Source>(alloc: Global, script: &mut S) -> Result<SingleTran
     ensures why { IfErr result (λ status. WhyNotAsked status (S.left script.old)) }
     ensures read_out { OnOk result (IsEmpty (S.left script.new)) }
     ensures bounded { TakesAtMost 4194305 (S.left script.old) (S.left script.new) }
-    ensures fault { result ≡ Err Status.SourceFault → Rose (S.faults script.old) (S.faults script.new) }
-    ensures later { S.faults script.old ≤ S.faults script.new }
+    ensures source { IsBlamedFairly S.faults (result ≡ Err Status.SourceFault) script.old script.new }
 {
     match read_script(alloc, script) {
         Ok(text) => spelled(alloc, text.as_slice()),

@@ -2,7 +2,8 @@
 
 ghost use Rattle.std.specs.Prelude.{◌≡◌, ◌≤◌, ◌^◌, List, ℕ, IfOk};
 ghost use Rattle.fbc_kinds.specs.declared.rules.Rule.{Rule};
-ghost use Rattle.fbc_outside.specs.Faults.{Rose, bump};
+ghost use Rattle.fbc_outside.specs.Faults.{bump};
+ghost use Rattle.fbc_outside.specs.Frames.{IsBlamedFairly, IsFaithful, IsUnwritten};
 ghost use Rattle.fbc_console.specs.Checking.{IsCheckDone, IsReported, report};
 ghost use Rattle.fbc_console.specs.Closing.{Took};
 
@@ -24,14 +25,15 @@ pub fn check<D: Device, K: Sink>(
     out: &mut K,
 ) -> Result<(), Status>
     requires reach { D.reach device.old ≤ 2 ^ 40 }
-    ensures done { (told : List ℕ) × IsCheckDone json (D.reach device.old) (D.bytes device.old) (D.bytes device.new) result told × Took result (K.may_have out.old) (K.may_have out.new) told }
-    ensures device_fault { result ≡ Err Status.DeviceFault → Rose (D.faults device.old) (D.faults device.new) }
-    ensures device_later { D.faults device.old ≤ D.faults device.new }
-    ensures writes { D.writes device.new ≡ D.writes device.old }
-    ensures refused_read { (rule : Rule) → result ≡ Err (Status.NotOurs rule) → D.reads device.new ≡ bump (D.reads device.old) }
-    ensures reach { D.reach device.new ≡ D.reach device.old }
-    ensures sink_fault { result ≡ Err Status.SinkFault → Rose (K.faults out.old) (K.faults out.new) }
-    ensures sink_later { K.faults out.old ≤ K.faults out.new }
+    ensures done { (told : List ℕ)
+        × IsCheckDone json (D.reach device.old) (D.bytes device.old) (D.bytes device.new) result told
+        × Took result (K.may_have out.old) (K.may_have out.new) told }
+    ensures device { IsFaithful D.reach D.faults (result ≡ Err Status.DeviceFault) device.old device.new }
+    ensures unwritten { IsUnwritten D.bytes D.writes D.landings device.old device.new }
+    ensures refused_read { (rule : Rule)
+        → result ≡ Err (Status.NotOurs rule)
+        → D.reads device.new ≡ bump (D.reads device.old) }
+    ensures sink { IsBlamedFairly K.faults (result ≡ Err Status.SinkFault) out.old out.new }
     ensures no_source { result ≡ Err Status.SourceFault → ⊥ }
 {
     match validate(alloc, device) {
@@ -48,8 +50,7 @@ pub fn check<D: Device, K: Sink>(
 fn tell<K: Sink>(alloc: Global, json: bool, found: &Findings, out: &mut K) -> Result<(), Status>
     ensures told { IsReported result json found.now (K.may_have out.old) (K.may_have out.new) }
     ensures no_refusal { (rule : Rule) → result ≡ Err (Status.NotOurs rule) → ⊥ }
-    ensures sink_fault { result ≡ Err Status.SinkFault → Rose (K.faults out.old) (K.faults out.new) }
-    ensures sink_later { K.faults out.old ≤ K.faults out.new }
+    ensures sink { IsBlamedFairly K.faults (result ≡ Err Status.SinkFault) out.old out.new }
 {
     let Ok(report) = report_of(alloc, json, found) else {
         return Err(Status::OutOfMemory);

@@ -20,7 +20,7 @@
 //!     file has, or its JSON; `Ok` then comes exactly where no page is damaged, and `Damaged` where one is.
 //!     `Ok` says that the file is sound, and `Damaged` that it is not (`sound`, `unsound`). The device holds
 //!     what it held.
-//!   - **Faults** (`device_fault`, `source_fault`, `sink_fault`): each only where the count of that object
+//!   - **Faults** (`device`, `source`, `sink`): each only where the count of that object
 //!     rose.
 //!   - **Reads and writes** (`unwritten`, `refused_read`, `refused_unwritten`): words that are neither `play`
 //!     nor those of a new file make no write, whether they are `validate` or no command. A call that ends with

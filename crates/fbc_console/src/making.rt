@@ -2,9 +2,9 @@
 
 ghost use Rattle.std.specs.Prelude.{◌≡◌, ◌≤◌, List, ℕ, true, length, string_bytes, IfOk, IfErr};
 ghost use Rattle.fbc_kinds.specs.declared.rules.Rule.{Rule};
-ghost use Rattle.fbc_kinds.specs.Limits.{IsPageSize, is_page_size};
+ghost use Rattle.fbc_kinds.specs.Limits.{IsPageSize};
 ghost use Rattle.fbc_files.specs.NewPages.{AreNewRelations};
-ghost use Rattle.fbc_outside.specs.Faults.{Rose};
+ghost use Rattle.fbc_outside.specs.Frames.{IsBlamedFairly, IsFaithful, IsUnwritten};
 ghost use Rattle.fbc_console.specs.Closing.{Took};
 ghost use Rattle.fbc_console.specs.Making.{IsCreateDone, TellsVacant, created_line};
 
@@ -27,12 +27,11 @@ pub fn create<D: Device, K: Sink>(
     requires reach { 262144 ≤ D.reach device.old }
     requires size { IsPageSize size }
     requires relations { AreNewRelations relations.now }
-    ensures done { (told : List ℕ) × IsCreateDone size relations.now (D.bytes device.old) (D.bytes device.new) result told × Took result (K.may_have out.old) (K.may_have out.new) told }
-    ensures device_fault { result ≡ Err Status.DeviceFault → Rose (D.faults device.old) (D.faults device.new) }
-    ensures device_later { D.faults device.old ≤ D.faults device.new }
-    ensures reach { D.reach device.new ≡ D.reach device.old }
-    ensures sink_fault { result ≡ Err Status.SinkFault → Rose (K.faults out.old) (K.faults out.new) }
-    ensures sink_later { K.faults out.old ≤ K.faults out.new }
+    ensures done { (told : List ℕ)
+        × IsCreateDone size relations.now (D.bytes device.old) (D.bytes device.new) result told
+        × Took result (K.may_have out.old) (K.may_have out.new) told }
+    ensures device { IsFaithful D.reach D.faults (result ≡ Err Status.DeviceFault) device.old device.new }
+    ensures sink { IsBlamedFairly K.faults (result ≡ Err Status.SinkFault) out.old out.new }
     ensures no_source { result ≡ Err Status.SourceFault → ⊥ }
     ensures no_refusal { (rule : Rule) → result ≡ Err (Status.NotOurs rule) → ⊥ }
 {
@@ -61,10 +60,8 @@ pub fn create<D: Device, K: Sink>(
 /// Errors: `DeviceFault`.
 fn is_vacant<D: Device>(device: &mut D) -> Result<bool, Status>
     ensures tells { IfOk result (λ vacant. TellsVacant vacant (D.bytes device.old)) }
-    ensures bytes { D.bytes device.new ≡ D.bytes device.old }
-    ensures reach { D.reach device.new ≡ D.reach device.old }
-    ensures fault { result ≡ Err Status.DeviceFault → Rose (D.faults device.old) (D.faults device.new) }
-    ensures later { D.faults device.old ≤ D.faults device.new }
+    ensures unwritten { IsUnwritten D.bytes D.writes D.landings device.old device.new }
+    ensures device { IsFaithful D.reach D.faults (result ≡ Err Status.DeviceFault) device.old device.new }
     ensures only { IfErr result (λ e. e ≡ Status.DeviceFault) }
 {
     match device.length() {

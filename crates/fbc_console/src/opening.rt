@@ -1,7 +1,8 @@
 //! The opening of a file, and the test for the fresh file.
 
-ghost use Rattle.std.specs.Prelude.{◌≡◌, ◌≢◌, ◌≤◌, ◌⊎◌, IfOk, IfErr};
-ghost use Rattle.fbc_outside.specs.Faults.{Rose, bump};
+ghost use Rattle.std.specs.Prelude.{◌≡◌, ◌≢◌, ◌⊎◌, IfOk, IfErr};
+ghost use Rattle.fbc_outside.specs.Faults.{bump};
+ghost use Rattle.fbc_outside.specs.Frames.{IsFaithful, IsUnwritten};
 ghost use Rattle.fbc_files.specs.Opening.{IsOpened};
 ghost use Rattle.fbc_console.specs.Opening.{WhyNotOpened, TellsFresh};
 
@@ -22,13 +23,10 @@ const FRESH_SIZE: usize = 4096;
 pub fn open<D: Device>(device: &mut D) -> Result<Opened, Status>
     ensures opened { IfOk result (IsOpened (D.reach device.old) (D.bytes device.old)) }
     ensures refused { IfErr result (λ status. WhyNotOpened status (D.bytes device.old)) }
-    ensures bytes { D.bytes device.new ≡ D.bytes device.old }
+    ensures unwritten { IsUnwritten D.bytes D.writes D.landings device.old device.new }
     ensures reads { (D.reads device.new ≡ D.reads device.old) ⊎ (D.reads device.new ≡ bump (D.reads device.old)) }
     ensures read_once { result ≢ Err Status.DeviceFault → D.reads device.new ≡ bump (D.reads device.old) }
-    ensures writes { D.writes device.new ≡ D.writes device.old }
-    ensures reach { D.reach device.new ≡ D.reach device.old }
-    ensures fault { result ≡ Err Status.DeviceFault → Rose (D.faults device.old) (D.faults device.new) }
-    ensures later { D.faults device.old ≤ D.faults device.new }
+    ensures device { IsFaithful D.reach D.faults (result ≡ Err Status.DeviceFault) device.old device.new }
 {
     match fbc_files::open(device) {
         Ok(opened) => Ok(opened),
@@ -42,10 +40,8 @@ pub fn open<D: Device>(device: &mut D) -> Result<Opened, Status>
 /// Errors: `DeviceFault`, `OutOfMemory`.
 pub fn is_fresh<D: Device>(alloc: Global, device: &mut D) -> Result<bool, Status>
     ensures tells { IfOk result (λ fresh. TellsFresh fresh (D.bytes device.old)) }
-    ensures bytes { D.bytes device.new ≡ D.bytes device.old }
-    ensures reach { D.reach device.new ≡ D.reach device.old }
-    ensures fault { result ≡ Err Status.DeviceFault → Rose (D.faults device.old) (D.faults device.new) }
-    ensures later { D.faults device.old ≤ D.faults device.new }
+    ensures unwritten { IsUnwritten D.bytes D.writes D.landings device.old device.new }
+    ensures device { IsFaithful D.reach D.faults (result ≡ Err Status.DeviceFault) device.old device.new }
     ensures only { IfErr result (λ e. (e ≡ Status.DeviceFault) ⊎ (e ≡ Status.OutOfMemory)) }
 {
     let mut bytes = [0; FRESH_SIZE + 1];

@@ -2,7 +2,7 @@
 
 ghost use Rattle.std.specs.Prelude.{◌≡◌, ◌≤◌, ◌<◌, [], true, length, reverse, count_by, OnOk};
 ghost use Rattle.std.specs.List.{AllByRecursion};
-ghost use Rattle.fbc_outside.specs.Faults.{Rose};
+ghost use Rattle.fbc_outside.specs.Frames.{IsBlamedFairly, IsFaithful};
 ghost use Rattle.fbc_script.specs.SingleTransaction.{IsShort, is_insert};
 ghost use Rattle.fbc_console.specs.Transaction.{answer_line, answer_to, inserted, values_after};
 ghost use Rattle.fbc_console.specs.Saying.{IsSaid, IsOpeningSaid, AreStepsSaid, IsFrontSaid, IsTransactionSaid, IsCommitSaid};
@@ -33,11 +33,8 @@ pub fn play<D: Device, K: Sink>(
     requires few { count_by is_insert steps.now ≤ 45 }
     ensures said { IsTransactionSaid result (K.may_have out.old) (K.may_have out.new) steps.now (D.bytes device.old) (D.bytes device.new) }
     ensures stands { Stands result (D.bytes device.old) (D.bytes device.new) (inserted (reverse steps.now)) }
-    ensures reach { D.reach device.new ≡ D.reach device.old }
-    ensures device_fault { result ≡ Err Status.DeviceFault → Rose (D.faults device.old) (D.faults device.new) }
-    ensures device_later { D.faults device.old ≤ D.faults device.new }
-    ensures sink_fault { result ≡ Err Status.SinkFault → Rose (K.faults out.old) (K.faults out.new) }
-    ensures sink_later { K.faults out.old ≤ K.faults out.new }
+    ensures device { IsFaithful D.reach D.faults (result ≡ Err Status.DeviceFault) device.old device.new }
+    ensures sink { IsBlamedFairly K.faults (result ≡ Err Status.SinkFault) out.old out.new }
 {
     let mut store = match Store::new(alloc) {
         Ok(store) => store,
@@ -62,8 +59,7 @@ fn tell_front<K: Sink>(
     requires few { count_by is_insert steps.now ≤ 45 }
     ensures said { IsFrontSaid result (K.may_have out.old) (K.may_have out.new) steps.now }
     ensures store { OnOk result (store.new ≡ inserted (reverse steps.now)) }
-    ensures sink_fault { result ≡ Err Status.SinkFault → Rose (K.faults out.old) (K.faults out.new) }
-    ensures sink_later { K.faults out.old ≤ K.faults out.new }
+    ensures sink { IsBlamedFairly K.faults (result ≡ Err Status.SinkFault) out.old out.new }
 {
     match tell_opening(alloc, out) {
         Ok(()) => play_steps(alloc, steps, store, out),
@@ -74,8 +70,7 @@ fn tell_front<K: Sink>(
 /// Writes the lines that answer attach and begin.
 fn tell_opening<K: Sink>(alloc: Global, out: &mut K) -> Result<(), Status>
     ensures said { IsOpeningSaid result (K.may_have out.old) (K.may_have out.new) }
-    ensures fault { result ≡ Err Status.SinkFault → Rose (K.faults out.old) (K.faults out.new) }
-    ensures later { K.faults out.old ≤ K.faults out.new }
+    ensures sink { IsBlamedFairly K.faults (result ≡ Err Status.SinkFault) out.old out.new }
 {
     match say(alloc, out, 1, &Answer::Ok) {
         Ok(()) => say(alloc, out, 2, &Answer::Number(1)),
@@ -96,8 +91,7 @@ fn play_steps<K: Sink>(
     requires few { count_by is_insert steps.now ≤ 45 }
     ensures said { AreStepsSaid result (K.may_have out.old) (K.may_have out.new) steps.now }
     ensures store { OnOk result (store.new ≡ inserted (reverse steps.now)) }
-    ensures sink_fault { result ≡ Err Status.SinkFault → Rose (K.faults out.old) (K.faults out.new) }
-    ensures sink_later { K.faults out.old ≤ K.faults out.new }
+    ensures sink { IsBlamedFairly K.faults (result ≡ Err Status.SinkFault) out.old out.new }
 {
     for (at, step) in steps.iter().enumerate() {
         let answer = answer_step(store, step);
@@ -140,11 +134,8 @@ fn commit<D: Device, K: Sink>(
     ensures said { IsCommitSaid result (K.may_have out.old) (K.may_have out.new) (answer_line number Answer.Ok) }
     ensures stands { Stands result (D.bytes device.old) (D.bytes device.new) store }
     ensures cut { result ≡ Err Status.SinkFault → IsCommitted (D.bytes device.old) (D.bytes device.new) store }
-    ensures reach { D.reach device.new ≡ D.reach device.old }
-    ensures device_fault { result ≡ Err Status.DeviceFault → Rose (D.faults device.old) (D.faults device.new) }
-    ensures device_later { D.faults device.old ≤ D.faults device.new }
-    ensures sink_fault { result ≡ Err Status.SinkFault → Rose (K.faults out.old) (K.faults out.new) }
-    ensures sink_later { K.faults out.old ≤ K.faults out.new }
+    ensures device { IsFaithful D.reach D.faults (result ≡ Err Status.DeviceFault) device.old device.new }
+    ensures sink { IsBlamedFairly K.faults (result ≡ Err Status.SinkFault) out.old out.new }
 {
     let line = line_of(alloc, number, &Answer::Ok)?;
     let images = store.commit(alloc)?;
@@ -158,8 +149,7 @@ fn commit<D: Device, K: Sink>(
 /// Writes the line that answers the statement on the script's line `number`.
 fn say<K: Sink>(alloc: Global, out: &mut K, number: u32, answer: &Answer) -> Result<(), Status>
     ensures said { IsSaid result (K.may_have out.old) (K.may_have out.new) (answer_line number answer.now) }
-    ensures fault { result ≡ Err Status.SinkFault → Rose (K.faults out.old) (K.faults out.new) }
-    ensures later { K.faults out.old ≤ K.faults out.new }
+    ensures sink { IsBlamedFairly K.faults (result ≡ Err Status.SinkFault) out.old out.new }
 {
     let line = line_of(alloc, number, answer)?;
     write_all(out, line.as_slice()).map_err(|_| Status::SinkFault)

@@ -1,7 +1,7 @@
 //! Reads a script from its source.
 
-ghost use Rattle.std.specs.Prelude.{◌≡◌, ◌≤◌, ◌<◌, ◌⊎◌, length, IfOk, IfErr, OnOk, OnErr};
-ghost use Rattle.fbc_outside.specs.Faults.{Rose};
+ghost use Rattle.std.specs.Prelude.{◌≡◌, ◌≤◌, ◌<◌, ◌⊎◌, length, IfOk, IfErr, OnOk};
+ghost use Rattle.fbc_outside.specs.Frames.{IsBlamedFairly};
 ghost use Rattle.fbc_console.specs.Bytes.{IsEmpty};
 ghost use Rattle.fbc_console.specs.Script.{HasReadAll, IsTooLong, TakesNext, TakesAtMost};
 
@@ -25,8 +25,7 @@ pub fn read_script<S: Source>(alloc: Global, script: &mut S) -> Result<Vec<u8>, 
     ensures read_out { OnOk result (IsEmpty (S.left script.new)) }
     ensures bounded { TakesAtMost 4194305 (S.left script.old) (S.left script.new) }
     ensures long { result ≡ Err Status.SourceLong → IsTooLong (S.left script.old) }
-    ensures fault { result ≡ Err Status.SourceFault → Rose (S.faults script.old) (S.faults script.new) }
-    ensures later { S.faults script.old ≤ S.faults script.new }
+    ensures source { IsBlamedFairly S.faults (result ≡ Err Status.SourceFault) script.old script.new }
     ensures only { IfErr result (λ e. (e ≡ Status.SourceFault) ⊎ (e ≡ Status.OutOfMemory) ⊎ (e ≡ Status.SourceLong)) }
 {
     let mut text = Vec::new(alloc);
@@ -47,8 +46,7 @@ fn read_next<S: Source>(script: &mut S, room: usize, text: &mut Vec<u8>) -> Resu
     ensures end { IfOk result (λ n. n ≡ 0 → IsEmpty (S.left script.new)) }
     ensures bounded { TakesAtMost room (S.left script.old) (S.left script.new) }
     ensures within { IfOk result (λ n. n ≤ room) }
-    ensures fault { result ≡ Err Status.SourceFault → Rose (S.faults script.old) (S.faults script.new) }
-    ensures later { S.faults script.old ≤ S.faults script.new }
+    ensures source { IsBlamedFairly S.faults (result ≡ Err Status.SourceFault) script.old script.new }
     ensures only { IfErr result (λ e. (e ≡ Status.SourceFault) ⊎ (e ≡ Status.OutOfMemory)) }
 {
     let mut buffer = [0; PIECE];

@@ -3,6 +3,7 @@
 ghost use Rattle.std.specs.Prelude.{◌≡◌, ◌≤◌, ◌^◌, ◌⊎◌, List, ℕ, OnOk};
 ghost use Rattle.fbc_kinds.specs.declared.rules.Rule.{Rule};
 ghost use Rattle.fbc_outside.specs.Faults.{Rose, bump};
+ghost use Rattle.fbc_outside.specs.Frames.{IsBlamedFairly, IsFaithful};
 ghost use Rattle.fbc_outside.specs.Streams.{SinkTakesSome};
 ghost use Rattle.fbc_console.specs.Statuses.{status_line};
 ghost use Rattle.fbc_console.specs.Bytes.{IsEmpty};
@@ -52,27 +53,31 @@ pub fn console<D: Device, S: Source, K: Sink>(
 ) -> Ended<D>
     requires least { 262144 ≤ D.reach device }
     requires most { D.reach device ≤ 2 ^ 40 }
-    ensures ended { HasEnded (D.reach device) words.now (S.left script.old) (K.may_have out.old) (K.may_have out.new) (D.bytes device) (D.bytes result.device) result.status }
-    ensures device_fault { result.status ≡ Status.DeviceFault → Rose (D.faults device) (D.faults result.device) }
-    ensures source_fault { result.status ≡ Status.SourceFault → Rose (S.faults script.old) (S.faults script.new) }
-    ensures sink_fault { result.status ≡ Status.SinkFault → Rose (K.faults out.old) (K.faults out.new) }
+    ensures ended { HasEnded (D.reach device) words.now (S.left script.old)
+        (K.may_have out.old) (K.may_have out.new) (D.bytes device) (D.bytes result.device) result.status }
+    ensures device { IsFaithful D.reach D.faults (result.status ≡ Status.DeviceFault) device result.device }
+    ensures source { IsBlamedFairly S.faults (result.status ≡ Status.SourceFault) script.old script.new }
+    ensures sink { IsBlamedFairly K.faults (result.status ≡ Status.SinkFault) out.old out.new }
     ensures bounded { TakesAtMost 4194305 (S.left script.old) (S.left script.new) }
     ensures read_out { result.status ≡ Status.Ok → SpellsPlay words.now → IsEmpty (S.left script.new) }
     ensures unread { (SpellsPlay words.now → ⊥) → S.left script.new ≡ S.left script.old }
     ensures unwritten { (MayWrite words.now → ⊥) → D.writes result.device ≡ D.writes device }
-    ensures refused_read { (rule : Rule) → result.status ≡ Status.NotOurs rule → D.reads result.device ≡ bump (D.reads device) }
-    ensures refused_unwritten { (rule : Rule) → result.status ≡ Status.NotOurs rule → D.writes result.device ≡ D.writes device }
-    ensures reach { D.reach result.device ≡ D.reach device }
-    ensures device_later { D.faults device ≤ D.faults result.device }
-    ensures source_later { S.faults script.old ≤ S.faults script.new }
-    ensures sink_later { K.faults out.old ≤ K.faults out.new }
-    ensures plays { NothingFailed (D.faults device) (D.faults result.device) (S.faults script.old) (S.faults script.new) (K.faults out.old) (K.faults out.new)
+    ensures refused_read { (rule : Rule)
+        → result.status ≡ Status.NotOurs rule
+        → D.reads result.device ≡ bump (D.reads device) }
+    ensures refused_unwritten { (rule : Rule)
+        → result.status ≡ Status.NotOurs rule
+        → D.writes result.device ≡ D.writes device }
+    ensures plays { NothingFailed (D.faults device) (D.faults result.device)
+        (S.faults script.old) (S.faults script.new) (K.faults out.old) (K.faults out.new)
         → IsPlainPlay words.now (S.left script.old) (D.bytes device) → IsCompleted result.status }
-    ensures makes { NothingFailed (D.faults device) (D.faults result.device) (S.faults script.old) (S.faults script.new) (K.faults out.old) (K.faults out.new)
+    ensures makes { NothingFailed (D.faults device) (D.faults result.device)
+        (S.faults script.old) (S.faults script.new) (K.faults out.old) (K.faults out.new)
         → IsPlainCreate words.now (D.bytes device) → IsCompleted result.status }
     ensures sound { result.status ≡ Status.Ok → SpellsCheck words.now → IsSoundDevice (D.reach device) (D.bytes device) }
     ensures unsound { result.status ≡ Status.Damaged → SpellsCheck words.now → IsUnsoundDevice (D.reach device) (D.bytes device) }
-    ensures checks { NothingFailed (D.faults device) (D.faults result.device) (S.faults script.old) (S.faults script.new) (K.faults out.old) (K.faults out.new)
+    ensures checks { NothingFailed (D.faults device) (D.faults result.device)
+        (S.faults script.old) (S.faults script.new) (K.faults out.old) (K.faults out.new)
         → IsPlainCheck words.now (D.bytes device) → IsChecked result.status }
 {
     bytes_spell_one_script();
@@ -93,20 +98,21 @@ fn run<D: Device, S: Source, K: Sink>(
 ) -> Status
     requires least { 262144 ≤ D.reach device.old }
     requires most { D.reach device.old ≤ 2 ^ 40 }
-    ensures ended { HasEnded (D.reach device.old) words.now (S.left script.old) (K.may_have out.old) (K.may_have out.new) (D.bytes device.old) (D.bytes device.new) result }
-    ensures device_fault { result ≡ Status.DeviceFault → Rose (D.faults device.old) (D.faults device.new) }
-    ensures source_fault { result ≡ Status.SourceFault → Rose (S.faults script.old) (S.faults script.new) }
-    ensures sink_fault { result ≡ Status.SinkFault → Rose (K.faults out.old) (K.faults out.new) }
+    ensures ended { HasEnded (D.reach device.old) words.now (S.left script.old)
+        (K.may_have out.old) (K.may_have out.new) (D.bytes device.old) (D.bytes device.new) result }
+    ensures device { IsFaithful D.reach D.faults (result ≡ Status.DeviceFault) device.old device.new }
+    ensures source { IsBlamedFairly S.faults (result ≡ Status.SourceFault) script.old script.new }
+    ensures sink { IsBlamedFairly K.faults (result ≡ Status.SinkFault) out.old out.new }
     ensures bounded { TakesAtMost 4194305 (S.left script.old) (S.left script.new) }
     ensures read_out { result ≡ Status.Ok → SpellsPlay words.now → IsEmpty (S.left script.new) }
     ensures unread { (SpellsPlay words.now → ⊥) → S.left script.new ≡ S.left script.old }
     ensures unwritten { (MayWrite words.now → ⊥) → D.writes device.new ≡ D.writes device.old }
-    ensures refused_read { (rule : Rule) → result ≡ Status.NotOurs rule → D.reads device.new ≡ bump (D.reads device.old) }
-    ensures refused_unwritten { (rule : Rule) → result ≡ Status.NotOurs rule → D.writes device.new ≡ D.writes device.old }
-    ensures reach { D.reach device.new ≡ D.reach device.old }
-    ensures device_later { D.faults device.old ≤ D.faults device.new }
-    ensures source_later { S.faults script.old ≤ S.faults script.new }
-    ensures sink_later { K.faults out.old ≤ K.faults out.new }
+    ensures refused_read { (rule : Rule)
+        → result ≡ Status.NotOurs rule
+        → D.reads device.new ≡ bump (D.reads device.old) }
+    ensures refused_unwritten { (rule : Rule)
+        → result ≡ Status.NotOurs rule
+        → D.writes device.new ≡ D.writes device.old }
 {
     let outcome = carry_out(alloc, words, device, script, out);
     end(alloc, outcome, out)
@@ -122,20 +128,22 @@ fn carry_out<D: Device, S: Source, K: Sink>(
 ) -> Result<(), Status>
     requires least { 262144 ≤ D.reach device.old }
     requires most { D.reach device.old ≤ 2 ^ 40 }
-    ensures done { (told : List ℕ) × IsCarriedOut (D.reach device.old) words.now (S.left script.old) (D.bytes device.old) (D.bytes device.new) result told × Took result (K.may_have out.old) (K.may_have out.new) told }
-    ensures device_fault { result ≡ Err Status.DeviceFault → Rose (D.faults device.old) (D.faults device.new) }
-    ensures source_fault { result ≡ Err Status.SourceFault → Rose (S.faults script.old) (S.faults script.new) }
-    ensures sink_fault { result ≡ Err Status.SinkFault → Rose (K.faults out.old) (K.faults out.new) }
+    ensures done { (told : List ℕ)
+        × IsCarriedOut (D.reach device.old) words.now (S.left script.old) (D.bytes device.old) (D.bytes device.new) result told
+        × Took result (K.may_have out.old) (K.may_have out.new) told }
+    ensures device { IsFaithful D.reach D.faults (result ≡ Err Status.DeviceFault) device.old device.new }
+    ensures source { IsBlamedFairly S.faults (result ≡ Err Status.SourceFault) script.old script.new }
+    ensures sink { IsBlamedFairly K.faults (result ≡ Err Status.SinkFault) out.old out.new }
     ensures bounded { TakesAtMost 4194305 (S.left script.old) (S.left script.new) }
     ensures read_out { OnOk result (SpellsPlay words.now → IsEmpty (S.left script.new)) }
     ensures unread { (SpellsPlay words.now → ⊥) → S.left script.new ≡ S.left script.old }
     ensures unwritten { (MayWrite words.now → ⊥) → D.writes device.new ≡ D.writes device.old }
-    ensures refused_read { (rule : Rule) → result ≡ Err (Status.NotOurs rule) → D.reads device.new ≡ bump (D.reads device.old) }
-    ensures refused_unwritten { (rule : Rule) → result ≡ Err (Status.NotOurs rule) → D.writes device.new ≡ D.writes device.old }
-    ensures reach { D.reach device.new ≡ D.reach device.old }
-    ensures device_later { D.faults device.old ≤ D.faults device.new }
-    ensures source_later { S.faults script.old ≤ S.faults script.new }
-    ensures sink_later { K.faults out.old ≤ K.faults out.new }
+    ensures refused_read { (rule : Rule)
+        → result ≡ Err (Status.NotOurs rule)
+        → D.reads device.new ≡ bump (D.reads device.old) }
+    ensures refused_unwritten { (rule : Rule)
+        → result ≡ Err (Status.NotOurs rule)
+        → D.writes device.new ≡ D.writes device.old }
 {
     match command_of(alloc, words) {
         Ok(Some(Command::Play)) => play_file(alloc, device, script, out),
@@ -156,18 +164,20 @@ fn play_file<D: Device, S: Source, K: Sink>(
     out: &mut K,
 ) -> Result<(), Status>
     requires reach { 262144 ≤ D.reach device.old }
-    ensures done { (told : List ℕ) × IsPlayDone (S.left script.old) (D.bytes device.old) (D.bytes device.new) result told × Took result (K.may_have out.old) (K.may_have out.new) told }
-    ensures device_fault { result ≡ Err Status.DeviceFault → Rose (D.faults device.old) (D.faults device.new) }
-    ensures source_fault { result ≡ Err Status.SourceFault → Rose (S.faults script.old) (S.faults script.new) }
-    ensures sink_fault { result ≡ Err Status.SinkFault → Rose (K.faults out.old) (K.faults out.new) }
+    ensures done { (told : List ℕ)
+        × IsPlayDone (S.left script.old) (D.bytes device.old) (D.bytes device.new) result told
+        × Took result (K.may_have out.old) (K.may_have out.new) told }
+    ensures device { IsFaithful D.reach D.faults (result ≡ Err Status.DeviceFault) device.old device.new }
+    ensures source { IsBlamedFairly S.faults (result ≡ Err Status.SourceFault) script.old script.new }
+    ensures sink { IsBlamedFairly K.faults (result ≡ Err Status.SinkFault) out.old out.new }
     ensures bounded { TakesAtMost 4194305 (S.left script.old) (S.left script.new) }
     ensures read_out { OnOk result (IsEmpty (S.left script.new)) }
-    ensures refused_read { (rule : Rule) → result ≡ Err (Status.NotOurs rule) → D.reads device.new ≡ bump (D.reads device.old) }
-    ensures refused_unwritten { (rule : Rule) → result ≡ Err (Status.NotOurs rule) → D.writes device.new ≡ D.writes device.old }
-    ensures reach { D.reach device.new ≡ D.reach device.old }
-    ensures device_later { D.faults device.old ≤ D.faults device.new }
-    ensures source_later { S.faults script.old ≤ S.faults script.new }
-    ensures sink_later { K.faults out.old ≤ K.faults out.new }
+    ensures refused_read { (rule : Rule)
+        → result ≡ Err (Status.NotOurs rule)
+        → D.reads device.new ≡ bump (D.reads device.old) }
+    ensures refused_unwritten { (rule : Rule)
+        → result ≡ Err (Status.NotOurs rule)
+        → D.writes device.new ≡ D.writes device.old }
 {
     if let Err(status) = open(device) {
         return Err(status);
@@ -193,13 +203,12 @@ fn play_asked<D: Device, K: Sink>(
     requires reach { 262144 ≤ D.reach device.old }
     requires playable { IsPlayable asked.now }
     requires fresh { IsFreshDevice (D.bytes device.old) }
-    ensures played { (told : List ℕ) × IsFreshPlayed result asked.now told (D.bytes device.old) (D.bytes device.new) × Took result (K.may_have out.old) (K.may_have out.new) told }
+    ensures played { (told : List ℕ)
+        × IsFreshPlayed result asked.now told (D.bytes device.old) (D.bytes device.new)
+        × Took result (K.may_have out.old) (K.may_have out.new) told }
     ensures no_refusal { (rule : Rule) → result ≡ Err (Status.NotOurs rule) → ⊥ }
-    ensures device_fault { result ≡ Err Status.DeviceFault → Rose (D.faults device.old) (D.faults device.new) }
-    ensures device_later { D.faults device.old ≤ D.faults device.new }
-    ensures sink_fault { result ≡ Err Status.SinkFault → Rose (K.faults out.old) (K.faults out.new) }
-    ensures sink_later { K.faults out.old ≤ K.faults out.new }
-    ensures reach { D.reach device.new ≡ D.reach device.old }
+    ensures device { IsFaithful D.reach D.faults (result ≡ Err Status.DeviceFault) device.old device.new }
+    ensures sink { IsBlamedFairly K.faults (result ≡ Err Status.SinkFault) out.old out.new }
 {
     answers_are_the_machines();
     an_untouched_file_is_an_empty_play();

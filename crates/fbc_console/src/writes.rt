@@ -1,7 +1,7 @@
 //! Writes whole pages to a device, one after another.
 
-ghost use Rattle.std.specs.Prelude.{◌≡◌, ◌≤◌, ◌<◌, OnOk, OnErr, All};
-ghost use Rattle.fbc_outside.specs.Faults.{HasCause};
+ghost use Rattle.std.specs.Prelude.{◌≤◌, ◌<◌, is_err, OnOk, IsTrue, All};
+ghost use Rattle.fbc_outside.specs.Frames.{IsFaithful};
 ghost use Rattle.fbc_console.specs.Writes.{IsAfter, IsAfterSome, IsPut, IsPutOrNot};
 
 use fbc_outside::{Device, Failed};
@@ -23,8 +23,7 @@ pub fn write_images<D: Device>(device: &mut D, images: &[PageImage]) -> Result<(
     requires pages { All (λ image. image.page < 256) images.now }
     ensures ok { OnOk result (IsAfter (D.bytes device.old) (D.bytes device.new) images.now) }
     ensures some { IsAfterSome (D.bytes device.old) (D.bytes device.new) images.now }
-    ensures reach { D.reach device.new ≡ D.reach device.old }
-    ensures cause { HasCause (D.faults device.old) (D.faults device.new) result }
+    ensures device { IsFaithful D.reach D.faults (IsTrue (is_err result)) device.old device.new }
 {
     for image in images {
         write_image(device, image)?;
@@ -38,8 +37,7 @@ fn write_image<D: Device>(device: &mut D, image: &PageImage) -> Result<(), Faile
     requires page { image.now.page < 256 }
     ensures ok { OnOk result (IsPut (D.bytes device.old) (D.bytes device.new) image.now) }
     ensures some { IsPutOrNot (D.bytes device.old) (D.bytes device.new) image.now }
-    ensures reach { D.reach device.new ≡ D.reach device.old }
-    ensures cause { HasCause (D.faults device.old) (D.faults device.new) result }
+    ensures device { IsFaithful D.reach D.faults (IsTrue (is_err result)) device.old device.new }
 {
     device.write_at(u64::from(image.page) * 1024, &image.bytes)
 }

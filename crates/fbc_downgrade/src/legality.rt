@@ -1,6 +1,6 @@
 //! Callbacks are served legally. These functions do nothing when they are run.
 
-ghost use Rattle.std.specs.Prelude.{◌≡◌, ℕ};
+ghost use Rattle.std.specs.Prelude.{ℕ};
 ghost use Rattle.fbc_kinds.specs.View.{View};
 ghost use Rattle.fbc_kinds.specs.declared.shapes.Shape.{Shape};
 ghost use Rattle.fbc_levels.specs.declared.levels.Level.{Level as ALevel};
@@ -28,7 +28,8 @@ pub fn servings_are_legal()
     ensures writes { (shape : Shape) (file : View) (history : History) (owner : ℕ) (callback : ACallback) (c : CacheState) (page : ℕ) (cause : ACause)
         → IsLegal shape file history → MayServe shape file owner callback history c → Serves c callback (servings.Must (ask.Write page cause))
         → GuardOfWrite (scene_of shape file history) owner page cause }
-    ensures lowerings { (shape : Shape) (file : View) (history : History) (owner : ℕ) (callback : ACallback) (c : CacheState) (resource : Resource) (level : ALevel)
+    ensures lowerings { (shape : Shape) (file : View) (history : History) (owner : ℕ) (callback : ACallback)
+        (c : CacheState) (resource : Resource) (level : ALevel)
         → IsLegal shape file history → MayServe shape file owner callback history c
         → Serves c callback (servings.Must (ask.Lower resource level)) → GuardOfLower (scene_of shape file history) owner resource level }
 {

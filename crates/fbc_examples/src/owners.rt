@@ -21,7 +21,9 @@ pub fn asks_are_answered()
     ensures busy { IsLegal small_shape new_file with_busy_ask }
     ensures room { IsLegal small_shape new_file with_full_ask }
     ensures circle { IsLegal small_shape new_file with_circle }
-    ensures no_wait { (waiting with_busy_ask 2 (page_resource 1) ≡ None) × (waiting with_full_ask 2 (page_resource 4) ≡ None) × (waiting with_circle 2 relation_resource ≡ None) }
+    ensures no_wait { (waiting with_busy_ask 2 (page_resource 1) ≡ None)
+        × (waiting with_full_ask 2 (page_resource 4) ≡ None)
+        × (waiting with_circle 2 relation_resource ≡ None) }
 {}
 
 /// What a dead owner left is taken away: for an owner that waits, for one that asks, and for one

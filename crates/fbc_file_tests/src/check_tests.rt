@@ -15,23 +15,25 @@ fn device(alloc: Global, fail: Fail) -> Result<MemoryDevice, AllocError>
     MemoryDevice::new(alloc, bytes, 65_536, vec![in alloc; fail]?)
 }
 
+/// The calls that a check makes: the length, one read for the opening, and one of each page.
+const CALLS: &[(CallKind, u64)] = &[
+    (CallKind::Length, 1),
+    (CallKind::Read, 1),
+    (CallKind::Read, 2),
+    (CallKind::Read, 3),
+    (CallKind::Read, 4),
+    (CallKind::Read, 5),
+    (CallKind::Read, 6),
+    (CallKind::Read, 7),
+    (CallKind::Read, 8),
+];
+
 #[test]
 fn each_call_that_fails_is_a_fault_of_the_device(rt: HostRuntime) -> Result<(), AllocError> {
-    let calls: [(CallKind, u64); 9] = [
-        (CallKind::Length, 1),
-        (CallKind::Read, 1),
-        (CallKind::Read, 2),
-        (CallKind::Read, 3),
-        (CallKind::Read, 4),
-        (CallKind::Read, 5),
-        (CallKind::Read, 6),
-        (CallKind::Read, 7),
-        (CallKind::Read, 8),
-    ];
-    for (kind, number) in calls {
+    for (kind, number) in CALLS {
         let fail = Fail {
-            kind,
-            number,
+            kind: *kind,
+            number: *number,
             landed: false,
         };
         let mut device = device(rt.alloc(), fail)?;

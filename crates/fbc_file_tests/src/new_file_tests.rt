@@ -86,26 +86,27 @@ fn the_smallest_file(rt: HostRuntime) -> Result<(), Fail> {
     Ok(())
 }
 
+/// The write that fails, whether it lands, the bytes that stand after it and what they show.
+const FAILED_WRITES: &[(u64, bool, usize, Result<u8, Rule>)] = &[
+    (1, false, 0, Err(Rule::Short)),
+    (1, true, 2048, Err(Rule::Kind)),
+    (2, false, 2048, Err(Rule::Kind)),
+    (2, true, 3072, Err(Rule::Kind)),
+    (3, false, 3072, Err(Rule::Kind)),
+    (3, true, 4096, Err(Rule::Kind)),
+    (4, false, 4096, Err(Rule::Kind)),
+    (4, true, 4096, Ok(1)),
+];
+
 #[test]
 fn a_failed_write_leaves_the_first_of_the_pages(rt: HostRuntime) -> Result<(), Fail> {
     let alloc = rt.alloc();
-    // The write that fails, whether it lands, the bytes that stand after it and what they show.
-    let cases = [
-        (1, false, 0, Err(Rule::Short)),
-        (1, true, 2048, Err(Rule::Kind)),
-        (2, false, 2048, Err(Rule::Kind)),
-        (2, true, 3072, Err(Rule::Kind)),
-        (3, false, 3072, Err(Rule::Kind)),
-        (3, true, 4096, Err(Rule::Kind)),
-        (4, false, 4096, Err(Rule::Kind)),
-        (4, true, 4096, Ok(1)),
-    ];
-    for (number, landed, size, shown) in cases {
+    for (number, landed, size, shown) in FAILED_WRITES {
         let kind = CallKind::Write;
         let fails = [Failing {
             kind,
-            number,
-            landed,
+            number: *number,
+            landed: *landed,
         }];
         let mut store = device(alloc, &fails)?;
         let made = create(&rt, &mut store, alloc, 1024, &[relation(b"t", 10)]);
@@ -113,11 +114,11 @@ fn a_failed_write_leaves_the_first_of_the_pages(rt: HostRuntime) -> Result<(), F
         let from = if shown.is_ok() { 0 } else { PAGE };
         assert_eq!(rt;
             store.bytes(),
-            file(alloc, size, from)?.as_slice(),
+            file(alloc, *size, from)?.as_slice(),
             "write {number}"
         );
-        assert_eq!(rt; store.writes(), number, "write {number}");
-        assert_eq!(rt; seen(&rt, store.bytes()), shown, "write {number}");
+        assert_eq!(rt; store.writes(), *number, "write {number}");
+        assert_eq!(rt; seen(&rt, store.bytes()), *shown, "write {number}");
     }
     Ok(())
 }

@@ -41,24 +41,26 @@ fn read_page<D: Device>(
     Ok(content_shown(alloc, shape, number, &bytes)?)
 }
 
+/// Of each page, the number of its kind and the rule that it breaks.
+const KINDS: &[(u32, u8, Option<Rule>)] = &[
+    (0, 1, None),
+    (1, 2, None),
+    (2, 3, Some(Rule::State)),
+    (3, 4, None),
+    (4, 5, None),
+    (5, 0, None),
+    (u32::MAX, 0, None),
+];
+
 #[test]
 fn pages_are_read_by_their_own_kind(rt: HostRuntime) -> Result<(), ReadFault> {
-    let cases: [(u32, u8, Option<Rule>); 7] = [
-        (0, 1, None),
-        (1, 2, None),
-        (2, 3, Some(Rule::State)),
-        (3, 4, None),
-        (4, 5, None),
-        (5, 0, None),
-        (u32::MAX, 0, None),
-    ];
     let mut device = device(rt.alloc(), 5120, LIMBO, &[])?;
     let Some(shape) = shape() else {
         panic!(rt; "the file is recognised");
     };
-    for (number, kind, rule) in cases {
-        let read = read_page(rt.alloc(), &mut device, &shape, number)?;
-        assert_eq!(rt; (read.kind, read.rule), (kind, rule), "{number}");
+    for (number, kind, rule) in KINDS {
+        let read = read_page(rt.alloc(), &mut device, &shape, *number)?;
+        assert_eq!(rt; (read.kind, read.rule), (*kind, *rule), "{number}");
     }
     let mut file = file_of(rt.alloc(), 5120, ONE_ROW)?;
     lay_all(LIMBO, &mut file);
@@ -101,6 +103,27 @@ fn walked<D: Device>(
     }
 }
 
+/// The pages of the file, each in its role.
+const ROLES: &[(u32, Role)] = &[
+    (0, Role::Header),
+    (1, Role::Inventory { sequence: 0 }),
+    (2, Role::Tip { sequence: 0 }),
+    (
+        3,
+        Role::Pointer {
+            relation: 0,
+            sequence: 0,
+        },
+    ),
+    (
+        4,
+        Role::Data {
+            relation: 0,
+            sequence: 0,
+        },
+    ),
+];
+
 #[test]
 fn a_file_names_its_pages_in_order(rt: HostRuntime) -> Result<(), ReadFault> {
     let mut device = device(rt.alloc(), 5120, &[], &[])?;
@@ -110,27 +133,8 @@ fn a_file_names_its_pages_in_order(rt: HostRuntime) -> Result<(), ReadFault> {
     let Some(visited) = walked(rt.alloc(), &mut device, &shape)? else {
         panic!(rt; "the header is read");
     };
-    let expected = [
-        (0, Role::Header),
-        (1, Role::Inventory { sequence: 0 }),
-        (2, Role::Tip { sequence: 0 }),
-        (
-            3,
-            Role::Pointer {
-                relation: 0,
-                sequence: 0,
-            },
-        ),
-        (
-            4,
-            Role::Data {
-                relation: 0,
-                sequence: 0,
-            },
-        ),
-    ];
     assert_eq!(rt; visited.tally.len(), 5);
-    for (index, (page, role)) in expected.iter().enumerate() {
+    for (index, (page, role)) in ROLES.iter().enumerate() {
         let Some(named) = visited.tally.get(*page) else {
             panic!(rt; "page {page} is named");
         };

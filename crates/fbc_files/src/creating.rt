@@ -1,9 +1,8 @@
 //! Makes a new file.
 
-ghost use Rattle.std.specs.Prelude.{◌≡◌, ◌*◌, ◌≤◌, ◌<◌, ℕ, Err, length, slice_index_or, IfOk, OnOk};
-ghost use Rattle.fbc_kinds.specs.File.{stands_under};
+ghost use Rattle.std.specs.Prelude.{◌≡◌, ◌*◌, ◌≤◌, ◌<◌, Err, length, is_err, IfOk, OnOk, IsTrue};
 ghost use Rattle.fbc_kinds.specs.Limits.{IsPageSize};
-ghost use Rattle.fbc_outside.specs.Faults.{HasCause, Rose};
+ghost use Rattle.fbc_outside.specs.Frames.{IsFaithful};
 ghost use Rattle.fbc_files.specs.Creating.{AreNewPages, HoldsIfEmpty, IsNewFile, IsNewPage, IsPagePut, IsPagePutOrNot, IsPartOfNewFile, IsSpellingOf, ShowsSome, ShowsWritten};
 ghost use Rattle.fbc_files.specs.NewPages.{AreNewRelations, page_count};
 
@@ -38,9 +37,7 @@ pub fn create_file<D: Device>(
     ensures part { HoldsIfEmpty (IsPartOfNewFile size relations.now) (D.bytes device.old) (D.bytes device.new) }
     ensures memory_bytes { result ≡ Err CreateFault.Memory → D.bytes device.new ≡ D.bytes device.old }
     ensures memory_faults { result ≡ Err CreateFault.Memory → D.faults device.new ≡ D.faults device.old }
-    ensures device { result ≡ Err CreateFault.Device → Rose (D.faults device.old) (D.faults device.new) }
-    ensures later { D.faults device.old ≤ D.faults device.new }
-    ensures reach { D.reach device.new ≡ D.reach device.old }
+    ensures device { IsFaithful D.reach D.faults (result ≡ Err CreateFault.Device) device.old device.new }
 {
     let pages = new_pages(alloc, size, relations)?;
     let mut image = vec![in alloc; 0; size as usize]?;
@@ -61,8 +58,7 @@ fn write_new_pages<D: Device>(
     requires reach { 262144 ≤ D.reach device.old }
     ensures ok { OnOk result (HoldsIfEmpty (ShowsWritten size pages.now (length pages.now)) (D.bytes device.old) (D.bytes device.new)) }
     ensures some { HoldsIfEmpty (ShowsSome size pages.now) (D.bytes device.old) (D.bytes device.new) }
-    ensures reach { D.reach device.new ≡ D.reach device.old }
-    ensures cause { HasCause (D.faults device.old) (D.faults device.new) result }
+    ensures device { IsFaithful D.reach D.faults (IsTrue (is_err result)) device.old device.new }
 {
     for number in 1..pages.len() {
         write_page(device, size, number, &pages[number], image)?;
@@ -85,8 +81,7 @@ fn write_page<D: Device>(
     requires reach { 262144 ≤ D.reach device.old }
     ensures ok { OnOk result (IsPagePut size number page.now (D.bytes device.old) (D.bytes device.new)) }
     ensures some { IsPagePutOrNot size number page.now (D.bytes device.old) (D.bytes device.new) }
-    ensures reach { D.reach device.new ≡ D.reach device.old }
-    ensures cause { HasCause (D.faults device.old) (D.faults device.new) result }
+    ensures device { IsFaithful D.reach D.faults (IsTrue (is_err result)) device.old device.new }
 {
     encode_page(page, size, image);
     device.write_at(number as u64 * u64::from(size), image)

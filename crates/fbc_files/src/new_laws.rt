@@ -17,14 +17,28 @@ ghost use Rattle.fbc_files.specs.Roles.{NamesFit};
 /// A new file is sound, however far its device reaches, and means the machine without rows. It does
 /// nothing when it is run.
 pub fn new_file_is_sound()
-    ensures sound { (reach size : ℕ) (relations : List NewRelation) (bytes : List ℕ) → IsPageSize size → AreNewRelations relations → IsNewFile size relations bytes → IsSoundFile reach bytes (listed_view (new_pages size relations)) }
-    ensures meaning { (size : ℕ) (relations : List NewRelation) → IsPageSize size → AreNewRelations relations → MeanTheSame (meaning_of (listed_view (new_pages size relations))) empty }
-    ensures names { (size : ℕ) (relations : List NewRelation) → IsPageSize size → AreNewRelations relations → NamesFit (listed_view (new_pages size relations)) (new_header size relations) }
+    ensures sound { (reach size : ℕ) (relations : List NewRelation) (bytes : List ℕ)
+        → IsPageSize size
+        → AreNewRelations relations
+        → IsNewFile size relations bytes
+        → IsSoundFile reach bytes (listed_view (new_pages size relations)) }
+    ensures meaning { (size : ℕ) (relations : List NewRelation)
+        → IsPageSize size
+        → AreNewRelations relations
+        → MeanTheSame (meaning_of (listed_view (new_pages size relations))) empty }
+    ensures names { (size : ℕ) (relations : List NewRelation)
+        → IsPageSize size
+        → AreNewRelations relations
+        → NamesFit (listed_view (new_pages size relations)) (new_header size relations) }
 {}
 
 /// The last write of a new file makes it whole, and before it the bytes are no file of the store. It
 /// does nothing when it is run.
 pub fn header_comes_last()
     ensures whole { (size : ℕ) (relations : List NewRelation) → written_pages (new_pages size relations) (page_count relations) ≡ new_pages size relations }
-    ensures before { (size count : ℕ) (relations : List NewRelation) (bytes : List ℕ) → IsPageSize size → count < page_count relations → ShowsPages (new_shape size relations) (written_pages (new_pages size relations) count) bytes → broken_file (take 1024 bytes) (length bytes) ≡ Some (if count == 0 then Rule.Short else Rule.Kind) }
+    ensures before { (size count : ℕ) (relations : List NewRelation) (bytes : List ℕ)
+        → IsPageSize size
+        → count < page_count relations
+        → ShowsPages (new_shape size relations) (written_pages (new_pages size relations) count) bytes
+        → broken_file (take 1024 bytes) (length bytes) ≡ Some (if count == 0 then Rule.Short else Rule.Kind) }
 {}

@@ -1,7 +1,8 @@
 //! Opens a file: whether it is one of this store's, its shape and its length.
 
 ghost use Rattle.std.specs.Prelude.{◌≡◌, ◌≢◌, ◌≤◌, ◌⊎◌, min, Err, IfOk, IfErr};
-ghost use Rattle.fbc_outside.specs.Faults.{Rose, bump};
+ghost use Rattle.fbc_outside.specs.Faults.{bump};
+ghost use Rattle.fbc_outside.specs.Frames.{IsFaithful, IsUnwritten};
 ghost use Rattle.fbc_files.specs.Opening.{IsOpened, WhyNotOpened};
 
 use crate::faults::OpenFault;
@@ -31,14 +32,10 @@ pub struct Opened {
 pub fn open<D: Device>(device: &mut D) -> Result<Opened, OpenFault>
     ensures opened { IfOk result (IsOpened (D.reach device.old) (D.bytes device.old)) }
     ensures refused { IfErr result (λ fault. WhyNotOpened fault (D.bytes device.old)) }
-    ensures bytes { D.bytes device.new ≡ D.bytes device.old }
+    ensures unwritten { IsUnwritten D.bytes D.writes D.landings device.old device.new }
     ensures reads { (D.reads device.new ≡ D.reads device.old) ⊎ (D.reads device.new ≡ bump (D.reads device.old)) }
     ensures read_once { result ≢ Err OpenFault.DeviceFault → D.reads device.new ≡ bump (D.reads device.old) }
-    ensures writes { D.writes device.new ≡ D.writes device.old }
-    ensures landings { D.landings device.new ≡ D.landings device.old }
-    ensures reach { D.reach device.new ≡ D.reach device.old }
-    ensures fault { result ≡ Err OpenFault.DeviceFault → Rose (D.faults device.old) (D.faults device.new) }
-    ensures later { D.faults device.old ≤ D.faults device.new }
+    ensures device { IsFaithful D.reach D.faults (result ≡ Err OpenFault.DeviceFault) device.old device.new }
 {
     let told = match device.length() {
         Ok(told) => told,

@@ -22,5 +22,8 @@ pub fn recognised_files_are_of_their_shape()
 /// gives one greatest length of values, by the count of relations and by the list of lengths.
 pub fn file_shapes_are_shapes()
     ensures shape { (shape : Shape) → IsFileShape shape → IsShape shape }
-    ensures lengths { (shape : Shape) (relation : ℕ) → IsFileShape shape → relation < relation_limit → value_length shape relation ≡ listed_length shape relation }
+    ensures lengths { (shape : Shape) (relation : ℕ)
+        → IsFileShape shape
+        → relation < relation_limit
+        → value_length shape relation ≡ listed_length shape relation }
 {}

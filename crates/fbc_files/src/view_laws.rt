@@ -12,8 +12,17 @@ ghost use Rattle.fbc_files.specs.Roles.{AreActive, DataFits, HasRole, NamesFit, 
 /// Where the pages that the header and the pointer pages name have their roles, each page that is
 /// reached has its own, and is reached once. It does nothing when it is run.
 pub fn reached_pages()
-    ensures role { (view : View) (header : Header) (role : Role) (page : ℕ) → NamesFit view header → DataFits view → Reaches view role page → HasRole view role page }
-    ensures once { (view : View) (header : Header) (role other : Role) (page : ℕ) → NamesFit view header → DataFits view → Reaches view role page → Reaches view other page → role ≡ other }
+    ensures role { (view : View) (header : Header) (role : Role) (page : ℕ)
+        → NamesFit view header
+        → DataFits view
+        → Reaches view role page
+        → HasRole view role page }
+    ensures once { (view : View) (header : Header) (role other : Role) (page : ℕ)
+        → NamesFit view header
+        → DataFits view
+        → Reaches view role page
+        → Reaches view other page
+        → role ≡ other }
 {}
 
 /// A view whose pointer pages name no data page, and in which no transaction is over, is sound and

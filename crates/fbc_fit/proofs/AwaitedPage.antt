@@ -21,7 +21,7 @@ use Rattle.fbc_buffers.specs.Holding.{buffer_of, is_waiting}
 use Rattle.fbc_cache.specs.Cache.{IsBuffer}
 use Rattle.fbc_cache.specs.Wants.{is_page_series}
 use Rattle.fbc_cache.proofs.HeldPairs.{found-is}
-use Rattle.fbc_fit.specs.Fit.{FitsPage, ShowsLock}
+use Rattle.fbc_fit.specs.Fit.{FitsPage, ShowsBuffer}
 use Rattle.fbc_fit.proofs.Covering.{own_key}
 use Rattle.fbc_fit.proofs.WaitingBuffers.{bare-level, is_awaited, one-waits}
 
@@ -34,18 +34,18 @@ found-all {X} p P (y ∷ ys) all x found = go (p y) found (found-all p P ys (All
   go false is rest = rest is
 
 -- The buffer of a request that waits, and of one that does not.
-shows-waiting : (granted : Level) (r : Request) (found : Option Buffer) → ShowsLock granted (Some r) found → is_some r.waiting ≡ true → is_awaited found ≡ true
+shows-waiting : (granted : Level) (r : Request) (found : Option Buffer) → ShowsBuffer granted (Some r) found → is_some r.waiting ≡ true → is_awaited found ≡ true
 shows-waiting granted r None shows waits = absurd shows
 shows-waiting granted r (Some b) (inl same) waits = rw same.1 at waits
 shows-waiting granted r (Some b) (inr late) waits = absurd (let no : false ≡ true = rw late.1 at waits in cc)
 
-pub shows-idle : (granted : Level) (r : Request) (found : Option Buffer) → ShowsLock granted (Some r) found → is_awaited found ≡ false → is_some r.waiting ≡ false
+pub shows-idle : (granted : Level) (r : Request) (found : Option Buffer) → ShowsBuffer granted (Some r) found → is_awaited found ≡ false → is_some r.waiting ≡ false
 shows-idle granted r None shows idle = absurd shows
 shows-idle granted r (Some b) (inl same) idle = rw same.1 idle
 shows-idle granted r (Some b) (inr late) idle = rw late.1 refl
 
 -- What is waited for is not granted yet.
-shows-bare : (shape : Shape) (granted : Level) (r : Request) (found : Option Buffer) → IfSome found (IsBuffer shape) → ShowsLock granted (Some r) found → is_some r.waiting ≡ true → granted ≡ Free
+shows-bare : (shape : Shape) (granted : Level) (r : Request) (found : Option Buffer) → IfSome found (IsBuffer shape) → ShowsBuffer granted (Some r) found → is_some r.waiting ≡ true → granted ≡ Free
 shows-bare shape granted r None is shows waits = absurd shows
 shows-bare shape granted r (Some b) is (inl same) waits = same.0 ∙ bare-level b.level b.wanted is.level (rw same.1 at waits)
 shows-bare shape granted r (Some b) is (inr late) waits = absurd (let no : false ≡ true = rw late.1 at waits in cc)
@@ -72,8 +72,8 @@ module _ (shape : Shape) (w : World) (owner : ℕ) (wait : Request) (held : List
   waits : is_some wait.waiting ≡ true
   waits = grind (arith, passes)
 
-  shows-wait : ShowsLock (w.granted owner (page_resource page)) (Some wait) (buffer_of held page)
-  shows-wait = subst (λ (r : Option Request). ShowsLock (w.granted owner (page_resource page)) r (buffer_of held page)) found-wait (pages page).lock
+  shows-wait : ShowsBuffer (w.granted owner (page_resource page)) (Some wait) (buffer_of held page)
+  shows-wait = subst (λ (r : Option Request). ShowsBuffer (w.granted owner (page_resource page)) r (buffer_of held page)) found-wait (pages page).lock
 
   pub awaited-here : is_awaited (buffer_of held page) ≡ true
   awaited-here = shows-waiting _ wait (buffer_of held page) shows-wait waits
@@ -99,7 +99,7 @@ module _ (shape : Shape) (w : World) (owner : ℕ) (wait : Request) (held : List
 
   pub idle-there : (number : ℕ) (r : Request) → request_of w.locks owner (page_resource number) ≡ Some r → number == page ≡ false → is_some r.waiting ≡ false
   idle-there number r found other =
-      shows-idle _ r (buffer_of held number) (subst (λ (x : Option Request). ShowsLock (w.granted owner (page_resource number)) x (buffer_of held number)) found (pages number).lock) (awaited-is number ∙ other)
+      shows-idle _ r (buffer_of held number) (subst (λ (x : Option Request). ShowsBuffer (w.granted owner (page_resource number)) x (buffer_of held number)) found (pages number).lock) (awaited-is number ∙ other)
 
   pub bare-is : (number : ℕ) (r : Request) → request_of w.locks owner (page_resource number) ≡ Some r → is_bare_wait_of owner r ≡ (number == page)
   bare-is number r found = go (number == page) refl where

@@ -16,7 +16,7 @@ use Rattle.fbc_legal.proofs.Exclusion.{AreRequestsTrue}
 use Rattle.fbc_buffers.specs.declared.buffers.Buffer.{Buffer}
 use Rattle.fbc_buffers.specs.Holding.{buffer_of, is_waiting}
 use Rattle.fbc_cache.specs.Cache.{CacheState}
-use Rattle.fbc_fit.specs.Fit.{Fits, ShowsLock}
+use Rattle.fbc_fit.specs.Fit.{Fits, ShowsBuffer}
 use Rattle.fbc_fit.proofs.AwaitedPage.{shows-idle}
 use Rattle.fbc_fit.proofs.Covering.{own_key}
 use Rattle.fbc_fit.proofs.PageRequests.{is_page_wait, same-withdrawn}
@@ -41,7 +41,7 @@ module _ (shape : Shape) (w : World) (owner : ℕ) (landed : Bool) (c : CacheSta
 
   idle_request : (page : ℕ) (r : Request) → request_of w.locks owner (page_resource page) ≡ Some r → is_some r.waiting ≡ false
   idle_request page r found =
-      shows-idle _ r (buffer_of c.held page) (subst (λ (asked : Option Request). ShowsLock (w.granted owner (page_resource page)) asked (buffer_of c.held page)) found (fits.pages page).lock) (idle_buffer page)
+      shows-idle _ r (buffer_of c.held page) (subst (λ (asked : Option Request). ShowsBuffer (w.granted owner (page_resource page)) asked (buffer_of c.held page)) found (fits.pages page).lock) (idle_buffer page)
 
   idle_own : (r : Request) (own : Bool) → is_page_request_of owner r ≡ own → (own ≡ true → request_of w.locks owner (page_resource r.resource.key) ≡ Some r) → is_page_wait owner r ≡ false
   idle_own r true own found = rw own (idle_request r.resource.key r (found refl))

@@ -16,7 +16,7 @@ use Rattle.fbc_world.proofs.Found.{find_map, find_passes}
 use Rattle.fbc_buffers.specs.declared.buffers.Buffer.{Buffer}
 use Rattle.fbc_buffers.specs.Holding.{buffer_of}
 use Rattle.fbc_cache.specs.Cache.{CacheState}
-use Rattle.fbc_fit.specs.Fit.{Fits, FitsPage, ShowsLock}
+use Rattle.fbc_fit.specs.Fit.{Fits, FitsPage, ShowsBuffer}
 use Rattle.fbc_fit.proofs.ChangedLevels.{changed-level}
 use Rattle.fbc_fit.proofs.Counts.{count-map}
 use Rattle.fbc_fit.proofs.Entering.{entered-there}
@@ -36,7 +36,7 @@ module _ (owner page : ℕ) (level : Level) where
 
   -- The lock that is granted.
   shows-granted : (before : Level) (asked : Option Request) (found : Option Buffer) → ((r : Request) → asked ≡ Some r → is_of owner (page_resource page) r ≡ true) → option_and_then (λ (r : Request). r.waiting) asked ≡ Some level
-      → ShowsLock before asked found → ShowsLock level (option_map granted_request asked) found
+      → ShowsBuffer before asked found → ShowsBuffer level (option_map granted_request asked) found
   shows-granted before None found its waits shows = absurd (cc)
   shows-granted before (Some r) None its waits shows = absurd shows
   shows-granted before (Some r) (Some b) its waits (inl same) = inr (sym same.1 ∙ waits, own r (its r refl))
@@ -57,24 +57,24 @@ module _ (shape : Shape) (w : World) (owner page : ℕ) (level : Level) (landed 
   asked_is number = ap (find (is_of owner (page_resource number))) requests_are ∙ find_map (is_of owner (page_resource number)) changes (λ r. refl) w.locks.requests
 
   -- The lock of a page.
-  lock-after : (number : ℕ) (same : Bool) → page == number ≡ same → ShowsLock (if same then level else w.granted owner (page_resource number)) (option_map changes (request_of w.locks owner (page_resource number))) (buffer_of c.held number)
+  lock-after : (number : ℕ) (same : Bool) → page == number ≡ same → ShowsBuffer (if same then level else w.granted owner (page_resource number)) (option_map changes (request_of w.locks owner (page_resource number))) (buffer_of c.held number)
   lock-after number true is =
       let here : page ≡ number = grind (arith, nat_tests, is) in
-      subst (λ n. ShowsLock level (option_map changes (request_of w.locks owner (page_resource n))) (buffer_of c.held n)) here
+      subst (λ n. ShowsBuffer level (option_map changes (request_of w.locks owner (page_resource n))) (buffer_of c.held n)) here
       (shows-granted owner page level (w.granted owner (page_resource page)) (request_of w.locks owner (page_resource page)) (buffer_of c.held page) (λ r found. find_passes (is_of owner (page_resource page)) w.locks.requests r found) wanted (fits.pages page).lock)
   lock-after number false is = shows-other (request_of w.locks owner (page_resource number)) (λ r found. find_passes (is_of owner (page_resource number)) w.locks.requests r found) (buffer_of c.held number) (fits.pages number).lock where
     waits_same : (r : Request) → is_of owner (page_resource number) r ≡ true → (changes r).waiting ≡ r.waiting
     waits_same r passes = grind (arith, nat_tests, is, passes)
 
-    shows-other : (asked : Option Request) → ((r : Request) → asked ≡ Some r → is_of owner (page_resource number) r ≡ true) → (found : Option Buffer) → ShowsLock (w.granted owner (page_resource number)) asked found
-        → ShowsLock (w.granted owner (page_resource number)) (option_map changes asked) found
+    shows-other : (asked : Option Request) → ((r : Request) → asked ≡ Some r → is_of owner (page_resource number) r ≡ true) → (found : Option Buffer) → ShowsBuffer (w.granted owner (page_resource number)) asked found
+        → ShowsBuffer (w.granted owner (page_resource number)) (option_map changes asked) found
     shows-other None its found shows = shows
     shows-other (Some r) its found shows = shows-request r (changes r) (waits_same r (its r refl)) (w.granted owner (page_resource number)) found shows
 
   fits_after : (number : ℕ) → FitsPage after owner c.held number
   fits_after number = record {
-    lock = subst (λ (r : Option Request). ShowsLock (after.granted owner (page_resource number)) r (buffer_of c.held number)) (sym (asked_is number))
-        (subst (λ (l : Level). ShowsLock l (option_map changes (request_of w.locks owner (page_resource number))) (buffer_of c.held number)) (sym (changed-level owner page number level (w.granted owner (page_resource number)))) (lock-after number (page == number) refl));
+    lock = subst (λ (r : Option Request). ShowsBuffer (after.granted owner (page_resource number)) r (buffer_of c.held number)) (sym (asked_is number))
+        (subst (λ (l : Level). ShowsBuffer l (option_map changes (request_of w.locks owner (page_resource number))) (buffer_of c.held number)) (sym (changed-level owner page number level (w.granted owner (page_resource number)))) (lock-after number (page == number) refl));
     copy = (fits.pages number).copy;
     draft = (fits.pages number).draft;
     pin = (fits.pages number).pin;

@@ -17,7 +17,7 @@ use Rattle.fbc_buffers.specs.declared.buffers.Buffer.{Buffer}
 use Rattle.fbc_buffers.specs.Holding.{buffer_of, granted_wait}
 use Rattle.fbc_buffers.proofs.Found.{buffer_of-map}
 use Rattle.fbc_cache.specs.Cache.{CacheState}
-use Rattle.fbc_fit.specs.Fit.{Fits, ShowsLock}
+use Rattle.fbc_fit.specs.Fit.{Fits, ShowsBuffer}
 use Rattle.fbc_fit.proofs.Pages.{page-shows, shows-page}
 use Rattle.fbc_fit.proofs.Shown.{Shows}
 
@@ -33,7 +33,7 @@ waits-nothing s owner resource free r found = go r.waiting refl where
       absurd (let no : false ≡ true = sym (waits_free owner resource s free) ∙ some in cc)
 
 -- The buffer of a page whose request waits for nothing.
-shows-learnt : (granted : Level) (asked : Option Request) (found : Option Buffer) → ((r : Request) → asked ≡ Some r → r.waiting ≡ None) → ShowsLock granted asked found → ShowsLock granted asked (option_map granted_wait found)
+shows-learnt : (granted : Level) (asked : Option Request) (found : Option Buffer) → ((r : Request) → asked ≡ Some r → r.waiting ≡ None) → ShowsBuffer granted asked found → ShowsBuffer granted asked (option_map granted_wait found)
 shows-learnt granted None None free shows = shows
 shows-learnt granted None (Some b) free shows = absurd shows
 shows-learnt granted (Some r) None free shows = absurd shows

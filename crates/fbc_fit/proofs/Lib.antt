@@ -49,3 +49,9 @@ mod IdleWithdrawals
 mod DueLowerings
 mod WantedWrites
 mod WantedLowerings
+mod GrantsBehind
+mod StepsTaken
+mod LocksTaken
+mod AnswersTaken
+mod LocksKnown
+mod LocksWithdrawn

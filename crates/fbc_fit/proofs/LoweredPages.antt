@@ -9,7 +9,7 @@ use Rattle.fbc_lock_table.specs.Effects.{with_granted}
 use Rattle.fbc_levels.specs.Resources.{page_resource}
 use Rattle.fbc_buffers.specs.declared.buffers.Buffer.{Buffer}
 use Rattle.fbc_buffers.specs.Holding.{is_of as is_buffer_of, with_blocking, with_level}
-use Rattle.fbc_fit.specs.Fit.{ShowsLock}
+use Rattle.fbc_fit.specs.Fit.{ShowsBuffer}
 use Rattle.fbc_fit.proofs.Idle.{IsIdle, idle-learnt}
 use Rattle.fbc_fit.proofs.Shown.{Shows, shows-request}
 
@@ -31,11 +31,11 @@ module _ (owner page : ℕ) (level : Level) where
   abbrev pub lowered_request : Request → Request
   lowered_request = with_granted owner (page_resource page) level
 
-  other_lock : (granted : Level) (asked : Option Request) (found : Option Buffer) → ShowsLock granted asked found → ShowsLock granted (option_map lowered_request asked) found
+  other_lock : (granted : Level) (asked : Option Request) (found : Option Buffer) → ShowsBuffer granted asked found → ShowsBuffer granted (option_map lowered_request asked) found
   other_lock granted None found shows = shows
   other_lock granted (Some r) found shows = shows-request r (lowered_request r) refl granted found shows
 
-  own_lock : (granted : Level) (asked : Option Request) (b after : Buffer) → after.level ≡ level → after.wanted ≡ b.wanted → IsIdle (Some b) → ShowsLock granted asked (Some b) → ShowsLock level (option_map lowered_request asked) (Some after)
+  own_lock : (granted : Level) (asked : Option Request) (b after : Buffer) → after.level ≡ level → after.wanted ≡ b.wanted → IsIdle (Some b) → ShowsBuffer granted asked (Some b) → ShowsBuffer level (option_map lowered_request asked) (Some after)
   own_lock granted None b after is waits idle shows = absurd shows
   own_lock granted (Some r) b after is waits idle (inl lock) = inl (sym is, lock.1 ∙ sym waits)
   own_lock granted (Some r) b after is waits idle (inr late) = absurd (idle-learnt b granted idle late.0)

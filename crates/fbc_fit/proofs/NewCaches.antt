@@ -24,7 +24,7 @@ use Rattle.fbc_legal.specs.Scene.{scene_of}
 use Rattle.fbc_legal.proofs.Exclusion.{same_number}
 use Rattle.fbc_legal.proofs.Induction.{IsCoherent-legal, requests_true}
 use Rattle.fbc_legal.proofs.Ranked.{IsRanked, IsRanked-legal}
-use Rattle.fbc_fit.specs.Fit.{Fits, FitsPage, ShowsLock}
+use Rattle.fbc_fit.specs.Fit.{Fits, FitsPage, ShowsBuffer}
 use Rattle.fbc_fit.proofs.Left.{own-request}
 use Rattle.fbc_fit.proofs.NewOwners.{none-asked}
 
@@ -76,7 +76,7 @@ module _ (shape : Shape) (file : View) (history : History) (legal : IsLegal shap
 
   new_page : (buffers name : ℕ) (landed : Bool) (page : ℕ) → FitsPage (world_of shape file (happens owner (act.Enter buffers name) landed ∷ history)) owner [] page
   new_page buffers name landed page = record {
-    lock = subst (λ (r : Option Request). ShowsLock (w.granted owner (page_resource page)) r None) (sym (no_request (page_resource page))) (no_level (page_resource page));
+    lock = subst (λ (r : Option Request). ShowsBuffer (w.granted owner (page_resource page)) r None) (sym (no_request (page_resource page))) (no_level (page_resource page));
     copy = no_copy page;
     draft = no_draft page;
     pin = no_pin page;

@@ -25,7 +25,7 @@ no_page : (resource : Resource) (page : ℕ) → is_page_series resource ≡ fal
 no_page resource page other = grind (arith, nat_tests, other)
 
 -- A refused ask enters nothing.
-refused-left : (s : LockState) (owner : ℕ) (resource : Resource) (level : Level) (word : ℕ) (answer : Asked) → IsRefused answer → asked s owner resource level word answer ≡ s
+pub refused-left : (s : LockState) (owner : ℕ) (resource : Resource) (level : Level) (word : ℕ) (answer : Asked) → IsRefused answer → asked s owner resource level word answer ≡ s
 refused-left s owner resource level word (answers.Busy holder held) refused = refl
 refused-left s owner resource level word (answers.Room used) refused = refl
 refused-left s owner resource level word _ refused = absurd refused

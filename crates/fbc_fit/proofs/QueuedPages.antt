@@ -21,13 +21,13 @@ use Rattle.fbc_buffers.specs.declared.buffers.Buffer.{Buffer}
 use Rattle.fbc_buffers.specs.Holding.{buffer_of, waiting_buffer}
 use Rattle.fbc_buffers.proofs.Found.{buffer_of-push}
 use Rattle.fbc_cache.specs.Cache.{CacheState}
-use Rattle.fbc_fit.specs.Fit.{Fits, FitsPage, ShowsLock}
+use Rattle.fbc_fit.specs.Fit.{Fits, FitsPage, ShowsBuffer}
 use Rattle.fbc_fit.proofs.Counts.{count-append, count-map}
 use Rattle.fbc_fit.proofs.Pages.{page-shows, shows-page}
 use Rattle.fbc_fit.proofs.Shown.{Shows, buffer-asked, shows-by}
 
 -- A page that has no buffer is not asked for.
-unheld-free : (granted : Level) (asked : Option Request) → ShowsLock granted asked None → granted ≡ Free
+unheld-free : (granted : Level) (asked : Option Request) → ShowsBuffer granted asked None → granted ≡ Free
 unheld-free granted None shows = shows
 unheld-free granted (Some r) shows = absurd shows
 

@@ -10,7 +10,7 @@ use Rattle.fbc_levels.specs.Resources.{page_resource}
 use Rattle.fbc_world.specs.World.{World}
 use Rattle.fbc_buffers.specs.Holding.{buffer_of}
 use Rattle.fbc_cache.specs.Cache.{CacheState}
-use Rattle.fbc_fit.specs.Fit.{Fits, FitsPage, ShowsLock}
+use Rattle.fbc_fit.specs.Fit.{Fits, FitsPage, ShowsBuffer}
 
 -- The owner's requests for pages are the same in both lists.
 pub record HasSameRequests (owner : ℕ) (before after : List Request) : Type 0 where
@@ -30,8 +30,8 @@ pub record HasSamePages (owner : ℕ) (w v : World) : Type 0 where
 module _ (shape : Shape) (owner : ℕ) (w v : World) (c : CacheState) (same : HasSamePages owner w v) (fits : Fits shape w owner c) where
   same_page : (page : ℕ) → FitsPage v owner c.held page
   same_page page = record {
-    lock = subst (λ (r : Option Request). ShowsLock (v.granted owner (page_resource page)) r (buffer_of c.held page)) (sym (same.requests.asked page))
-        (subst (λ (level : Level). ShowsLock level (request_of w.locks owner (page_resource page)) (buffer_of c.held page)) (sym (same.granted page)) (fits.pages page).lock);
+    lock = subst (λ (r : Option Request). ShowsBuffer (v.granted owner (page_resource page)) r (buffer_of c.held page)) (sym (same.requests.asked page))
+        (subst (λ (level : Level). ShowsBuffer level (request_of w.locks owner (page_resource page)) (buffer_of c.held page)) (sym (same.granted page)) (fits.pages page).lock);
     copy = same.copy page ∙ (fits.pages page).copy;
     draft = same.draft page ∙ (fits.pages page).draft;
     pin = same.pin page ∙ (fits.pages page).pin;

@@ -17,10 +17,10 @@ use Rattle.fbc_buffers.specs.declared.buffers.Buffer.{Buffer}
 use Rattle.fbc_buffers.specs.Holding.{buffer_of, is_waiting}
 use Rattle.fbc_cache.specs.Cache.{CacheState}
 use Rattle.fbc_cache.specs.Wants.{is_page_series}
-use Rattle.fbc_fit.specs.Fit.{Fits, ShowsLock, WaitsForPages}
+use Rattle.fbc_fit.specs.Fit.{Fits, ShowsBuffer, WaitsForPages}
 
 -- What is true of all is true of the one that is found.
-found_one : {X : Type 0} (P : X → Type 0) (q : X → Bool) (xs : List X) → All P xs → (x : X) → find q xs ≡ Some x → P x
+pub found_one : {X : Type 0} (P : X → Type 0) (q : X → Bool) (xs : List X) → All P xs → (x : X) → find q xs ≡ Some x → P x
 found_one P q [] all x found = absurd (cc)
 found_one {X} P q (y ∷ ys) all x found = go (q y) (found_one P q ys (All-tail P y ys all) x) found where
   go : (b : Bool) → (find q ys ≡ Some x → P x) → cond b (Some y) (find q ys) ≡ Some x → P x
@@ -30,7 +30,7 @@ found_one {X} P q (y ∷ ys) all x found = go (q y) (found_one P q ys (All-tail 
   go false rest is = rest is
 
 -- The buffer of a page that is waited for.
-wait_shown : (level : Level) (r : Request) (found : Option Buffer) → is_some r.waiting ≡ true → ShowsLock level (Some r) found → option_map_or is_waiting found false ≡ true
+wait_shown : (level : Level) (r : Request) (found : Option Buffer) → is_some r.waiting ≡ true → ShowsBuffer level (Some r) found → option_map_or is_waiting found false ≡ true
 wait_shown level r (Some b) waits (inl same) = ap (λ (wanted : Option Level). is_some wanted) (sym same.1) ∙ waits
 wait_shown level r (Some b) waits (inr late) = absurd (let no : false ≡ true = rw late.1 at waits in cc)
 wait_shown level r None waits shows = absurd shows
@@ -58,7 +58,7 @@ module _ (shape : Shape) (w : World) (owner : ℕ) (c : CacheState) (apart : IsA
   some_waits r found page =
       found_waits c.held r.resource.key
       (wait_shown _ r (buffer_of c.held r.resource.key) (waits r (find_passes (is_wait_of owner) w.locks.requests r found))
-      (subst (λ (asked : Option Request). ShowsLock (w.granted owner (page_resource r.resource.key)) asked (buffer_of c.held r.resource.key)) (is_its_request r found page) (fits.pages r.resource.key).lock))
+      (subst (λ (asked : Option Request). ShowsBuffer (w.granted owner (page_resource r.resource.key)) asked (buffer_of c.held r.resource.key)) (is_its_request r found page) (fits.pages r.resource.key).lock))
 
   pub nothing_waited : WaitsForPages w owner → list_any is_waiting c.held ≡ false → wait_of w.locks owner ≡ None
   nothing_waited pages none = go (wait_of w.locks owner) refl where

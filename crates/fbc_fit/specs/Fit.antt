@@ -1,6 +1,7 @@
 -- What a cache says of its owner's pages, and what the history says.
 use Rattle.std.specs.Prelude.{◌≡◌, ◌≢◌, ◌⊎◌, ℕ, false, true, List, Option, Some, None, length}
 use Rattle.std.specs.List.{list_any}
+use Rattle.std.specs.Option.{option_map}
 use Rattle.fbc_kinds.specs.declared.edits.Edit.{Edit}
 use Rattle.fbc_kinds.specs.declared.edits.Edit.TheVariants.{Format}
 use Rattle.fbc_kinds.specs.declared.shapes.Shape.{Shape}
@@ -22,23 +23,35 @@ use Rattle.fbc_buffers.specs.Holding.{buffer_of}
 use Rattle.fbc_cache.specs.Cache.{CacheState, copy_in, is_dirty_in, is_pinned_in}
 use Rattle.fbc_cache.specs.Wants.{is_page_series}
 
--- The level that is granted and the one that is waited for are those of the buffer.
-abbrev pub IsSameLock : Level → Request → Buffer → Type 0
-IsSameLock level r b = (level ≡ b.level) × (r.waiting ≡ b.wanted)
+-- What an attachment knows of one lock: the level that it was granted, as far as it learnt, and the one that it waits for.
+pub record KnownLock : Type 0 where
+  pub level : Level
+  pub wanted : Option Level
 
--- What the buffer waits for is granted already, by the step of another owner: a look will tell.
-abbrev pub IsLateGrant : Level → Request → Buffer → Type 0
-IsLateGrant level r b = (b.wanted ≡ Some level) × (r.waiting ≡ None)
+-- The level that is granted and the one that is waited for are those that are known.
+abbrev pub IsSameLock : Level → Request → KnownLock → Type 0
+IsSameLock level r known = (level ≡ known.level) × (r.waiting ≡ known.wanted)
 
--- A page is asked for exactly where it has a buffer.
-abbrev pub ShowsLock : Level → Option Request → Option Buffer → Type 0
-ShowsLock level (Some r) (Some b) = IsSameLock level r b ⊎ IsLateGrant level r b
+-- What is waited for is granted already, by the step of another owner: a look will tell.
+abbrev pub IsLateGrant : Level → Request → KnownLock → Type 0
+IsLateGrant level r known = (known.wanted ≡ Some level) × (r.waiting ≡ None)
+
+-- There is a request exactly where something is known of the lock.
+abbrev pub ShowsLock : Level → Option Request → Option KnownLock → Type 0
+ShowsLock level (Some r) (Some known) = IsSameLock level r known ⊎ IsLateGrant level r known
 ShowsLock level None None = level ≡ Free
 ShowsLock level _ _ = ⊥
 
+-- The lock of a page is what its buffer knows.
+abbrev pub lock_known : Buffer → KnownLock
+lock_known b = record { level = b.level; wanted = b.wanted }
+
+abbrev pub ShowsBuffer : Level → Option Request → Option Buffer → Type 0
+ShowsBuffer level asked found = ShowsLock level asked (option_map lock_known found)
+
 -- What is said of one page: its lock, its copy, whether its draft is the owner's, and whether it is pinned.
 pub record FitsPage (w : World) (owner : ℕ) (held : List Buffer) (page : ℕ) : Type 0 where
-  pub lock : ShowsLock (w.granted owner (page_resource page)) (request_of w.locks owner (page_resource page)) (buffer_of held page)
+  pub lock : ShowsBuffer (w.granted owner (page_resource page)) (request_of w.locks owner (page_resource page)) (buffer_of held page)
   pub copy : w.copy owner page ≡ copy_in held page
   pub draft : is_draft_of owner (w.draft page) ≡ is_dirty_in held page
   pub pin : w.is_pinned owner page ≡ is_pinned_in held page

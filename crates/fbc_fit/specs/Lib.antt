@@ -1,2 +1,4 @@
 pub mod Fit
 pub mod After
+pub mod Answered
+pub mod KnownLocks

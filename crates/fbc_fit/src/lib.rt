@@ -22,6 +22,20 @@
 //!     `lowered_pages_fit`, `other_acts_leave_the_fit`.
 //!   - What its owner does in it: `pinned_pages_fit`, `unpinned_pages_fit`, `uses_and_marks_are_no_events`,
 //!     `recorded_pairs_fit`, `edited_pages_fit`.
+//! - **Proved**: by one whole step (`IsStepOf` of `fbc_region`), with the grants that follow it.
+//!   - One law for each kind of answer: `granted_lock_steps_fit`, `queued_lock_steps_fit`,
+//!     `refused_lock_steps_fit`, `deadlock_steps_fit`, `look_steps_fit`, `withdrawal_steps_fit`,
+//!     `lowering_steps_fit`, `read_steps_fit`, `write_steps_fit`, `other_steps_fit`; and one over any ask and
+//!     answer that the owner lives through (`taken_answers_fit`).
+//!   - The image of a page that was read over a lawful journal shows what is kept
+//!     (`images_of_reads_show_what_is_kept`).
+//! - **Proved**: what is known of any lock (`KnowsLock` of `specs/KnownLocks`), also of one on a number or a
+//!   relation, and also where its grant comes late: `others_leave_known_locks`,
+//!   `quiet_acts_leave_known_locks`, `late_grants_leave_known_locks`, `known_locks_are_learnt`,
+//!   `asked_locks_are_known`, `lowered_locks_are_known`, `withdrawn_locks_are_known`,
+//!   `refused_asks_leave_known_locks`.
+//! - **Supposed** where an answer is taken: at a look, that somebody is in the way of what its owner waits for
+//!   (`IsHeldUp`); at a withdrawal, that who waits for no page has no buffer that waits (`WaitsForOne`).
 //! - **Supposed**, each where a law needs it: the history is legal; the owner waits for no number and no
 //!   relation where it asks for a page; there is a cause to write and a reason to lower; a format carries the
 //!   number of its page.
@@ -32,8 +46,10 @@
 mod asking;
 mod giving;
 mod keeping;
+mod known;
 mod learning;
 mod local;
+mod steps;
 
 pub use asking::{
     due_locks_are_free_to_be_asked, due_reads_are_legal, edits_are_made_under_locks,
@@ -46,6 +62,11 @@ pub use giving::{
 pub use keeping::{
     late_grants_fit, lowered_pages_fit, new_caches_fit, others_leave_the_fit, written_pages_fit,
 };
+pub use known::{
+    asked_locks_are_known, known_locks_are_learnt, late_grants_leave_known_locks,
+    lowered_locks_are_known, others_leave_known_locks, quiet_acts_leave_known_locks,
+    refused_asks_leave_known_locks, withdrawn_locks_are_known,
+};
 pub use learning::{
     granted_locks_fit, looks_that_grant_fit, other_acts_leave_the_fit,
     other_withdrawals_leave_the_fit, queued_locks_fit, read_pages_fit, withdrawals_fit,
@@ -53,4 +74,9 @@ pub use learning::{
 pub use local::{
     edited_pages_fit, pinned_pages_fit, recorded_pairs_fit, unpinned_pages_fit,
     uses_and_marks_are_no_events,
+};
+pub use steps::{
+    deadlock_steps_fit, granted_lock_steps_fit, images_of_reads_show_what_is_kept, look_steps_fit,
+    lowering_steps_fit, other_steps_fit, queued_lock_steps_fit, read_steps_fit,
+    refused_lock_steps_fit, taken_answers_fit, withdrawal_steps_fit, write_steps_fit,
 };

@@ -1,6 +1,6 @@
 //! What the clauses leave to examples: the calls in memory once each, with values worked out by
 //! hand.
-ghost use Rattle.std.specs.Prelude.{◌≡◌, ◌+◌, ◌≤◌, length, IfOk, Some};
+ghost use Rattle.std.specs.Prelude.{◌≡◌, length, IfOk, Some};
 
 use fbc_outside::{
     CallKind, Device, Fail, Failed, Gate, MemoryDevice, MemorySink, MemorySource, NoGate, Source,
@@ -24,59 +24,92 @@ const fn fail(kind: CallKind, number: u64, landed: bool) -> Fail {
     }
 }
 
+const LANDED: Fail = Fail {
+    kind: CallKind::Write,
+    number: 1,
+    landed: true,
+};
+
+const LOST: Fail = Fail {
+    kind: CallKind::Write,
+    number: 1,
+    landed: false,
+};
+
+const SECOND: Fail = Fail {
+    kind: CallKind::Write,
+    number: 2,
+    landed: true,
+};
+
+const READ: Fail = Fail {
+    kind: CallKind::Read,
+    number: 1,
+    landed: true,
+};
+
+/// A name, the calls that fail, where what is written, whether that is told to have been done, and the bytes after it.
+type WriteRow = (
+    &'static str,
+    &'static [Fail],
+    u64,
+    &'static [u8],
+    bool,
+    &'static [u8],
+);
+
+const WRITES: &[WriteRow] = &[
+    ("inside", &[], 1, &[9, 9], true, &[1, 9, 9, 4]),
+    ("across the end", &[], 3, &[8, 9], true, &[1, 2, 3, 8, 9]),
+    ("past a gap", &[], 6, &[7], true, &[1, 2, 3, 4, 0, 0, 7]),
+    ("nothing past a gap", &[], 6, &[], true, &[1, 2, 3, 4, 0, 0]),
+    ("landed", &[LANDED], 0, &[9], false, &[9, 2, 3, 4]),
+    ("lost", &[LOST], 0, &[9], false, &[1, 2, 3, 4]),
+    (
+        "first entry",
+        &[LOST, LANDED],
+        0,
+        &[9],
+        false,
+        &[1, 2, 3, 4],
+    ),
+    ("another number", &[SECOND], 0, &[9], true, &[9, 2, 3, 4]),
+    ("another kind", &[READ], 0, &[9], true, &[9, 2, 3, 4]),
+];
+
 #[test]
 fn writes_land_or_not(rt: HostRuntime) -> Result<(), AllocError> {
-    let landed = fail(CallKind::Write, 1, true);
-    let lost = fail(CallKind::Write, 1, false);
-    let second = fail(CallKind::Write, 2, true);
-    let read = fail(CallKind::Read, 1, true);
-    let cases: [(&str, &[Fail], u64, &[u8], bool, &[u8]); 9] = [
-        ("inside", &[], 1, &[9, 9], true, &[1, 9, 9, 4]),
-        ("across the end", &[], 3, &[8, 9], true, &[1, 2, 3, 8, 9]),
-        ("past a gap", &[], 6, &[7], true, &[1, 2, 3, 4, 0, 0, 7]),
-        ("nothing past a gap", &[], 6, &[], true, &[1, 2, 3, 4, 0, 0]),
-        ("landed", &[landed], 0, &[9], false, &[9, 2, 3, 4]),
-        ("lost", &[lost], 0, &[9], false, &[1, 2, 3, 4]),
-        (
-            "first entry",
-            &[lost, landed],
-            0,
-            &[9],
-            false,
-            &[1, 2, 3, 4],
-        ),
-        ("another number", &[second], 0, &[9], true, &[9, 2, 3, 4]),
-        ("another kind", &[read], 0, &[9], true, &[9, 2, 3, 4]),
-    ];
-    for (name, fails, at, from, ok, after) in cases {
-        assert!(rt; from.len() <= 8 && at <= 8 - from.len() as u64);
+    for (name, fails, at, from, ok, after) in WRITES {
+        assert!(rt; from.len() <= 8 && *at <= 8 - from.len() as u64);
         let mut device = four(rt.alloc(), fails)?;
-        let answer = device.write_at(at, from);
-        assert_eq!(rt; answer.is_ok(), ok, "{name}");
-        assert_eq!(rt; device.bytes(), after, "{name}");
-        assert_eq!(rt; device.faults(), u64::from(!ok), "{name}");
+        let answer = device.write_at(*at, from);
+        assert_eq!(rt; answer.is_ok(), *ok, "{name}");
+        assert_eq!(rt; device.bytes(), *after, "{name}");
+        assert_eq!(rt; device.faults(), u64::from(!*ok), "{name}");
         assert_eq!(rt; device.writes(), 1, "{name}");
     }
     Ok(())
 }
 
+/// From where how many bytes are read, the answer, and the room after it, of three bytes.
+const READS: &[(u64, usize, Result<usize, Failed>, [u8; 3])] = &[
+    (0, 2, Ok(2), [1, 2, 0]),
+    (0, 3, Err(Failed), [0, 0, 0]),
+    (1, 3, Ok(3), [2, 3, 4]),
+    (3, 3, Ok(1), [4, 0, 0]),
+    (4, 3, Ok(0), [0, 0, 0]),
+    (1 << 50, 3, Ok(0), [0, 0, 0]),
+];
+
 #[test]
 fn reads_stop_at_the_end(rt: HostRuntime) -> Result<(), AllocError> {
     let second = fail(CallKind::Read, 2, false);
     let mut device = four(rt.alloc(), &[second])?;
-    let cases: [(u64, usize, Result<usize, Failed>, [u8; 3]); 6] = [
-        (0, 2, Ok(2), [1, 2, 0]),
-        (0, 3, Err(Failed), [0, 0, 0]),
-        (1, 3, Ok(3), [2, 3, 4]),
-        (3, 3, Ok(1), [4, 0, 0]),
-        (4, 3, Ok(0), [0, 0, 0]),
-        (1 << 50, 3, Ok(0), [0, 0, 0]),
-    ];
-    for (at, room, answer, after) in cases {
-        assert!(rt; room <= 3);
+    for (at, room, answer, after) in READS {
+        assert!(rt; *room <= 3);
         let mut into = [0; 3];
-        assert_eq!(rt; device.read_at(at, &mut into[..room]), answer, "at {at}");
-        assert_eq!(rt; into, after, "at {at}");
+        assert_eq!(rt; device.read_at(*at, &mut into[..*room]), *answer, "at {at}");
+        assert_eq!(rt; into, *after, "at {at}");
     }
     assert_eq!(rt; device.length(), Ok(4));
     assert_eq!(rt;
@@ -102,38 +135,42 @@ fn lengths_fail_when_listed(rt: HostRuntime) -> Result<(), AllocError> {
     Ok(())
 }
 
+/// The answer to each read of two bytes, and the room after it.
+const PIECES: &[(Result<usize, Failed>, [u8; 2])] = &[
+    (Ok(2), [1, 2]),
+    (Err(Failed), [0, 0]),
+    (Ok(2), [3, 4]),
+    (Ok(1), [5, 0]),
+    (Ok(0), [0, 0]),
+];
+
 #[test]
 fn sources_fail_once_and_lose_nothing(rt: HostRuntime) -> Result<(), AllocError> {
     let bytes = vec![in rt.alloc(); 1, 2, 3, 4, 5]?;
     let mut source = MemorySource::new(bytes, Some(2));
-    let cases = [
-        (Ok(2), [1, 2]),
-        (Err(Failed), [0, 0]),
-        (Ok(2), [3, 4]),
-        (Ok(1), [5, 0]),
-        (Ok(0), [0, 0]),
-    ];
-    for (answer, after) in cases {
+    for (answer, after) in PIECES {
         let mut into = [0; 2];
-        assert_eq!(rt; source.read(&mut into), answer);
-        assert_eq!(rt; into, after);
+        assert_eq!(rt; source.read(&mut into), *answer);
+        assert_eq!(rt; into, *after);
     }
     assert_eq!(rt; source.faults(), 1);
     Ok(())
 }
 
+/// Each piece, the answer to it, and what the sink of four bytes has after it.
+const TAKEN: &[(&'static [u8], Result<(), Failed>, &'static [u8])] = &[
+    (&[1, 2, 3], Ok(()), &[1, 2, 3]),
+    (&[4, 5], Err(Failed), &[1, 2, 3]),
+    (&[], Ok(()), &[1, 2, 3]),
+    (&[6], Ok(()), &[1, 2, 3, 6]),
+];
+
 #[test]
 fn sinks_take_whole_pieces_while_they_have_room(rt: HostRuntime) -> Result<(), AllocError> {
     let mut sink = MemorySink::new(rt.alloc(), 4)?;
-    let cases: [(&[u8], Result<(), Failed>, &[u8]); 4] = [
-        (&[1, 2, 3], Ok(()), &[1, 2, 3]),
-        (&[4, 5], Err(Failed), &[1, 2, 3]),
-        (&[], Ok(()), &[1, 2, 3]),
-        (&[6], Ok(()), &[1, 2, 3, 6]),
-    ];
-    for (text, answer, after) in cases {
-        assert_eq!(rt; write_all(&mut sink, text), answer);
-        assert_eq!(rt; sink.bytes(), after);
+    for (text, answer, after) in TAKEN {
+        assert_eq!(rt; write_all(&mut sink, text), *answer);
+        assert_eq!(rt; sink.bytes(), *after);
     }
     assert_eq!(rt; sink.faults(), 1);
     Ok(())

@@ -158,7 +158,7 @@ pub record IsScan (shown : ℕ → Option (List ℕ)) (rows : List (ℕ × List 
   pub exact : (row : ℕ) (value : List ℕ) → Contains rows (row, value) ↔ (shown row ≡ Some value)
 
 abbrev pub IsScanReply : (ℕ → Option (List ℕ)) → Reply → Type 0
-IsScanReply shown (reply.Rows rows) = IsScan shown rows.value
+IsScanReply shown (reply.Rows rows) = IsScan shown rows
 IsScanReply shown _ = ⊥
 
 -- Without an open transaction the reply is that there is none.

@@ -5,8 +5,9 @@
 //!   snapshot sees, the one-thread machine, the meaning of a file, and lost space.
 //! - Offered to the crates above: the types, and lemmas on these definitions (the files of `proofs/` that are
 //!   `pub`). The theorems stand with the crates that prove them.
-//! - **Proved**: `Listed` is its list and `Padded` its bytes, with zeros behind them up to its width;
-//!   `is_name` tells the names that a relation may have.
+//! - **Proved**: `Listed` is its list and `Padded` its bytes, with zeros behind them up to its width; `Rows`
+//!   is the list of its rows, and a clone of it the same list; `is_name` tells the names that a relation may
+//!   have.
 //! - **Supposed**: a place that is set is within its list, a padded text within its width, and a circle has
 //!   at most eight owners.
 #![tactic(auto)]
@@ -20,6 +21,7 @@ mod padded;
 mod pages;
 mod relation_names;
 mod replies;
+mod rows;
 mod rules;
 mod shapes;
 mod snapshots;
@@ -32,7 +34,8 @@ pub use listed::Listed;
 pub use padded::{Name, Padded, Value};
 pub use pages::{Cell, Data, Flag, Header, Inventory, Page, Pointer, Relation, State, Tip};
 pub use relation_names::is_name;
-pub use replies::{Circle, Reply, Rows};
+pub use replies::{Circle, Reply};
+pub use rows::Rows;
 pub use rules::Rule;
 pub use shapes::Shape;
 pub use snapshots::{Snapshot, Standing, Transaction};

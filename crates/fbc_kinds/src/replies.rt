@@ -2,14 +2,10 @@
 
 ghost use Rattle.std.specs.Prelude.{◌≡◌, ◌≤◌, length};
 
-use crate::listed::Listed;
 use crate::padded::Value;
+use crate::rows::Rows;
 use crate::rules::Rule;
 use std::marker::Model;
-use std::sync::Arc;
-
-/// The rows that a scan found: each row's number with its value, in rising order of the numbers.
-pub type Rows = Listed<(u32, Value)>;
 
 /// A circle of at most 8 waiting owners, seen by contracts as the list of their numbers.
 #[derive(Clone, Copy, Debug, PartialEq, Eq)]
@@ -58,7 +54,7 @@ impl Circle {
 
 /// The answer to a statement. An owner stands as its number, a lock level as its number from 0
 /// (none) to 6 (EX).
-#[derive(Debug, Drop)]
+#[derive(Clone, Debug, Drop)]
 pub enum Reply {
     /// It is done.
     Ok,
@@ -67,7 +63,7 @@ pub enum Reply {
     /// There is nothing to be seen at this row.
     None,
     /// These rows are seen.
-    Rows { rows: Arc<Rows> },
+    Rows { rows: Rows },
     /// There is nothing at this row to be changed.
     NoRow,
     /// Transaction `n` changed this row, and this transaction does not see it.

@@ -20,7 +20,8 @@ pub fn legal_acts_leave_the_living()
     ensures holdings { (shape : Shape) (file : View) (before : History) (moment : Moment) (other : ℕ) → IsLegal shape file (moment ∷ before)
         → is_alive before other ≡ true → moment.event.actor ≢ other
         → holdings_of (world_of shape file (moment ∷ before)) other ≡ holdings_of (world_of shape file before) other }
-    ensures drafts { (shape : Shape) (file : View) (before : History) (moment : Moment) (other page : ℕ) (drafted : Draft) → IsLegal shape file (moment ∷ before)
+    ensures drafts { (shape : Shape) (file : View) (before : History) (moment : Moment) (other page : ℕ) (drafted : Draft)
+        → IsLegal shape file (moment ∷ before)
         → is_alive before other ≡ true → moment.event.actor ≢ other
         → draft shape file before page ≡ Some drafted → drafted.owner ≡ other → draft shape file (moment ∷ before) page ≡ Some drafted }
     ensures requests { (shape : Shape) (file : View) (before : History) (moment : Moment) (other : ℕ) → IsLegal shape file (moment ∷ before)

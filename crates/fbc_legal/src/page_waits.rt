@@ -45,13 +45,17 @@ pub fn waits_go_upward()
 
 /// Owners that wait for pages never wait for each other in a circle.
 pub fn page_waits_form_no_circle()
-    ensures { (shape : Shape) (file : View) (history : History) (owners : List ℕ) → IsLegal shape file history → ¬ IsCircle (IsHeldOverPage (world_of shape file history)) owners }
+    ensures { (shape : Shape) (file : View) (history : History) (owners : List ℕ)
+        → IsLegal shape file history
+        → ¬ IsCircle (IsHeldOverPage (world_of shape file history)) owners }
 {}
 
 /// No owners wait for each other in a circle, over pages, numbers and relations mixed. A wait for a page counts where the other has
 /// it pinned.
 pub fn waits_form_no_circle()
-    ensures { (shape : Shape) (file : View) (history : History) (owners : List ℕ) → IsLegal shape file history → ¬ IsCircle (IsHeldUpBy (world_of shape file history)) owners }
+    ensures { (shape : Shape) (file : View) (history : History) (owners : List ℕ)
+        → IsLegal shape file history
+        → ¬ IsCircle (IsHeldUpBy (world_of shape file history)) owners }
 {}
 
 /// An ask for a page is refused as one that would close a circle in no legal history: its owner waits for nothing else.

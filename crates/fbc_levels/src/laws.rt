@@ -15,7 +15,8 @@ pub fn compatible_both_ways()
 
 /// What goes beside a level goes beside each level that it gives as well.
 pub fn lower_levels_go_beside()
-    ensures { (held lower other : Level) → join held lower ≡ held → IsTrue (is_compatible held other) → IsTrue (is_compatible lower other) }
+    ensures { (held lower other : Level) → join held lower ≡ held
+        → IsTrue (is_compatible held other) → IsTrue (is_compatible lower other) }
 {}
 
 /// Resources are the same where series and key are.
@@ -25,5 +26,8 @@ pub fn same_resources_are_equal()
 
 /// The holder is in the way, and nobody with a lesser number is; without one nobody is in the way.
 pub fn holders_are_least()
-    ensures { (s : LockState) (owner : ℕ) (resource : Resource) (level : Level) → MatchOption (holder_of s owner resource level) (All (λ r. stands_in_way owner resource level r ≡ false) s.requests) (IsHolder s owner resource level) }
+    ensures { (s : LockState) (owner : ℕ) (resource : Resource) (level : Level)
+        → MatchOption (holder_of s owner resource level)
+        (All (λ r. stands_in_way owner resource level r ≡ false) s.requests)
+        (IsHolder s owner resource level) }
 {}

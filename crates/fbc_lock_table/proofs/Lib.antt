@@ -4,3 +4,4 @@ mod InPlace
 pub mod Pairs
 pub mod Ways
 pub mod Lawful
+mod Waiters

@@ -1,12 +1,13 @@
 //! The list of requests: finding one, and changing some in their places.
 
-ghost use Rattle.std.specs.Prelude.{◌≡◌, ◌==◌, ◌&&◌, ℕ, ◌+◌, ◌<◌, ◌≤◌, Bool, false, not, min, map, List, [], ◌∷◌, ◌++◌, length, vec_len, vec_capacity};
+ghost use Rattle.std.specs.Prelude.{◌≡◌, ◌==◌, ◌&&◌, ℕ, ◌+◌, ◌^◌, ◌<◌, ◌≤◌, Bool, false, not, min, map, List, [], ◌∷◌, ◌++◌, length, vec_len, vec_capacity};
 ghost use Rattle.std.specs.List.{find, filter, list_any, reduce};
 ghost use Rattle.fbc_levels.specs.declared.resources.Request.{Request as ARequest};
 ghost use Rattle.fbc_levels.specs.LockState.{is_of, is_wait_of, is_dead, is_dead_of, stands_in_way, of_least_owner, lesser};
 ghost use Rattle.fbc_levels.specs.Waits.{is_waited_for};
 ghost use Rattle.fbc_lock_table.specs.Answers.{is_held_number};
 ghost use Rattle.fbc_lock_table.specs.Effects.{entered, new_request, with_granted, with_waiting, is_bare_wait_of, without_wait, of_dead, granting};
+ghost use Rattle.fbc_lock_table.specs.Waiters.{waiting_of};
 
 use fbc_levels::{Level, Request, Resource, Series, compatible};
 
@@ -141,6 +142,27 @@ pub fn least_data_of(requests: &[Request], series: Series) -> Option<u32>
         .filter(|request| is_held(request, series))
         .map(|request| request.word)
         .reduce(|least, word| least.min(word))
+}
+
+/// How many of the requests wait.
+pub fn waiters_of(requests: &[Request]) -> u32
+    requires { length requests.now < 2 ^ 32 }
+    ensures { result ≡ waiting_of requests.now }
+{
+    requests
+        .iter()
+        .filter(|request| request.waiting.is_some())
+        .count() as u32
+}
+
+/// How many of the requests wait, where they were at most so many before. Where none did it takes
+/// no pass.
+pub fn waiters_left(requests: &[Request], before: u32) -> u32
+    requires room { length requests.now < 2 ^ 32 }
+    requires fewer { waiting_of requests.now ≤ before }
+    ensures { result ≡ waiting_of requests.now }
+{
+    if before == 0 { 0 } else { waiters_of(requests) }
 }
 
 /// The owner's request for the resource gets this granted level.

@@ -7,6 +7,7 @@ ghost use Rattle.fbc_levels.specs.LockState as state;
 ghost use Rattle.fbc_levels.specs.Waits.{waits_for_number};
 ghost use Rattle.fbc_lock_table.specs.Answers.{least_data_of, MayAsk, lacks_room, NeedsRoom, NeedsWay, AskNamesDead, LookNamesDead, answer_to_ask, answer_to_look};
 ghost use Rattle.fbc_lock_table.specs.Effects.{after_ask, lowered, withdrawn, died, after_grant, without, MayGrant};
+ghost use Rattle.fbc_lock_table.specs.Waiters.{waiters};
 
 use crate::answers::{Asked, Looked};
 use crate::requests;
@@ -18,18 +19,23 @@ use std::marker::Model;
 #[derive(Drop)]
 pub struct LockTable {
     capacity: u32,
+    waiters: u32,
     requests: Vec<Request>,
 }
 
 impl Model for LockTable {
-    ghost use Rattle.std.specs.Prelude.{◌≤◌, vec_capacity};
+    ghost use Rattle.std.specs.Prelude.{◌≡◌, ◌≤◌, vec_capacity};
     ghost use Rattle.fbc_levels.specs.LockState.{LockState, IsLawful};
+    ghost use Rattle.fbc_lock_table.specs.Waiters.{waiting_of};
 
     ghost Value = { LockState };
 
     ghost view = { λ t. record { capacity = t.capacity; requests = t.requests.items } };
 
-    ghost invariant = { λ t. IsLawful (record { capacity = t.capacity; requests = t.requests.items }) × (t.capacity ≤ vec_capacity t.requests) };
+    ghost invariant = { λ t.
+        IsLawful (record { capacity = t.capacity; requests = t.requests.items })
+        × (t.capacity ≤ vec_capacity t.requests)
+        × (t.waiters ≡ waiting_of t.requests.items) };
 }
 
 impl LockTable {
@@ -38,7 +44,11 @@ impl LockTable {
         ensures { IfOk result (λ t. t ≡ record { capacity = capacity; requests = [] }) }
     {
         let requests = Vec::with_capacity(alloc, capacity as usize)?;
-        Ok(LockTable { capacity, requests })
+        Ok(LockTable {
+            capacity,
+            waiters: 0,
+            requests,
+        })
     }
 
     /// How many requests there are.
@@ -48,6 +58,13 @@ impl LockTable {
     {
         let _capacity = self.capacity;
         self.requests.len() as u32
+    }
+
+    /// How many requests wait.
+    pub fn waiters(&self) -> u32
+        ensures { result ≡ waiters self.now }
+    {
+        self.waiters
     }
 
     /// The level that the owner is granted on the resource: none where it has no request.
@@ -153,6 +170,7 @@ impl LockTable {
             Asked::Queued => {
                 requests::enter(&mut self.requests, owner, resource, word);
                 requests::set_waiting(&mut self.requests, owner, resource, level);
+                self.waiters = requests::waiters_of(&self.requests);
             }
             _ => {}
         }
@@ -189,6 +207,7 @@ impl LockTable {
     {
         if level == Level::Free {
             requests::remove(&mut self.requests, owner, resource);
+            self.waiters = requests::waiters_left(&self.requests, self.waiters);
         } else {
             requests::set_granted(&mut self.requests, owner, resource, level);
         }
@@ -200,6 +219,7 @@ impl LockTable {
     {
         requests::remove_bare_wait(&mut self.requests, owner);
         requests::clear_waiting(&mut self.requests, owner);
+        self.waiters = requests::waiters_left(&self.requests, self.waiters);
     }
 
     /// The k-th request in the order of asking, from 0. It is the one request of its owner for
@@ -239,6 +259,7 @@ impl LockTable {
         ensures { self.new ≡ after_grant self.old owner resource }
     {
         requests::grant_wait(&mut self.requests, owner, resource);
+        self.waiters = requests::waiters_left(&self.requests, self.waiters);
     }
 
     /// Takes the owner's request for the resource away.
@@ -246,5 +267,6 @@ impl LockTable {
         ensures { self.new ≡ without self.old owner resource }
     {
         requests::remove(&mut self.requests, owner, resource);
+        self.waiters = requests::waiters_left(&self.requests, self.waiters);
     }
 }

@@ -5,9 +5,8 @@ ghost use Rattle.fbc_kinds.specs.Machine.{MayCome, IsReply, reply_in, changed, m
 ghost use Rattle.fbc_machine.specs.Shown.{shown, IsDone, IsRefused};
 
 use crate::machine::Machine;
-use fbc_kinds::{Command, Listed, Reply, Standing, Value};
+use fbc_kinds::{Command, Reply, Rows, Standing, Value};
 use std::alloc::AllocError;
-use std::sync::Arc;
 
 /// Gives the machine a command: answers its reply, and leaves the machine after it. Without memory
 /// nothing changes.
@@ -142,7 +141,7 @@ fn scan(machine: &Machine, who: u32, relation: u8) -> Result<Reply, AllocError>
     };
     let rows = machine.rows_seen(relation, machine.transaction(place).snapshot.items())?;
     Ok(Reply::Rows {
-        rows: Arc::new(machine.allocator(), Listed::new(rows))?,
+        rows: Rows::new(machine.allocator(), rows)?,
     })
 }
 

@@ -1,6 +1,7 @@
 pub mod Bytes
 pub mod Fails
 pub mod Faults
+pub mod Frames
 pub mod Landings
 pub mod Memory
 pub mod MemoryStreams

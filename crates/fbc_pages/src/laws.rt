@@ -20,7 +20,10 @@ pub fn one_header()
 /// Page inventories and their bytes name each other. It does nothing when it is run.
 pub fn one_inventory()
     ensures spelling { (size : ℕ) (page : Inventory) (a b : List ℕ) → SpellsInventory size page a → SpellsInventory size page b → a ≡ b }
-    ensures unbroken { (size : ℕ) (page : Inventory) (bytes : List ℕ) → IsPageSize size → SpellsInventory size page bytes → broken_inventory size page.page bytes ≡ None }
+    ensures unbroken { (size : ℕ) (page : Inventory) (bytes : List ℕ)
+        → IsPageSize size
+        → SpellsInventory size page bytes
+        → broken_inventory size page.page bytes ≡ None }
     ensures page { (size : ℕ) (a b : Inventory) (bytes : List ℕ) → SpellsInventory size a bytes → SpellsInventory size b bytes → a ≡ b }
 {}
 

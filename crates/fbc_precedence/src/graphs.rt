@@ -44,6 +44,13 @@ impl Graph {
         Ok(Graph { buffers, pairs })
     }
 
+    /// The pairs that are recorded, the oldest first.
+    pub fn pairs(&self) -> &[Edge]
+        ensures { result.now ≡ self.now.pairs }
+    {
+        &self.pairs
+    }
+
     /// Whether no more pages than there are buffers stand in the graph with these two.
     pub fn has_room(&self, high: u32, low: u32) -> bool
         ensures { IsTrue result ↔ HasRoom self.now high low }

@@ -8,7 +8,8 @@
 //!     where the low one stands before the high one, and Recorded where neither does (`already`,
 //!     `write_first`, `recorded`); then the pair is added, and else nothing changes (`after`).
 //!   - `clear` removes exactly the pairs of a page; `next_to_write` answers the least page that none stands
-//!     before, among the given one and those before it; `blocked` tells whether some page stands before it.
+//!     before, among the given one and those before it; `blocked` tells whether some page stands before it;
+//!     `pairs` hands out all pairs. `lesser` answers the lesser of two pages, of which one may be missing.
 //! - **Supposed**: the two pages of a pair differ, and no more pages stand in pairs with them than there are
 //!   buffers, which `has_room` tells exactly; for as many pages as there are buffers there is room
 //!   (`pages_are_few`).
@@ -23,3 +24,4 @@ mod search;
 pub use graphs::Graph;
 pub use laws::pages_are_few;
 pub use related::Related;
+pub use search::lesser;

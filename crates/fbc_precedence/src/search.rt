@@ -89,7 +89,7 @@ fn least_free(pairs: &[Edge], found: &[u32]) -> Option<u32>
 }
 
 /// The lesser of the two, or the page where there is no other.
-fn lesser(least: Option<u32>, page: u32) -> u32
+pub fn lesser(least: Option<u32>, page: u32) -> u32
     ensures { result ≡ spec.lesser least page }
 {
     match least {

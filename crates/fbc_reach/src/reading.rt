@@ -1,9 +1,10 @@
 //! The bytes in a page's place.
 
-ghost use Rattle.std.specs.Prelude.{◌≡◌, ◌≤◌, ◌-◌, ◌++◌, length, take, replicate, Err, IfOk, OnOk};
+ghost use Rattle.std.specs.Prelude.{◌≡◌, ◌≤◌, ◌-◌, ◌++◌, length, take, replicate, is_err, Err, IfOk, OnOk, IsTrue};
 ghost use Rattle.fbc_kinds.specs.HeaderSpelling.{IsFileShape};
 ghost use Rattle.fbc_reach.specs.Content.{IsReadOf};
-ghost use Rattle.fbc_outside.specs.Faults.{bump, HasCause, Rose};
+ghost use Rattle.fbc_outside.specs.Faults.{bump};
+ghost use Rattle.fbc_outside.specs.Frames.{IsFaithful, IsUnwritten};
 ghost use Rattle.fbc_reach.specs.Reading.{AreBytesOf};
 
 use crate::content::{PageRead, content_shown};
@@ -22,12 +23,9 @@ pub(crate) fn read_page<D: Device>(
     requires size { length buffer.old ≤ 16384 }
     ensures read { OnOk result (AreBytesOf (D.bytes device.old) (length buffer.old) number buffer.new) }
     ensures length { length buffer.new ≡ length buffer.old }
-    ensures bytes { D.bytes device.new ≡ D.bytes device.old }
     ensures reads { D.reads device.new ≡ bump (D.reads device.old) }
-    ensures writes { D.writes device.new ≡ D.writes device.old }
-    ensures landings { D.landings device.new ≡ D.landings device.old }
-    ensures reach { D.reach device.new ≡ D.reach device.old }
-    ensures cause { HasCause (D.faults device.old) (D.faults device.new) result }
+    ensures unwritten { IsUnwritten D.bytes D.writes D.landings device.old device.new }
+    ensures device { IsFaithful D.reach D.faults (IsTrue (is_err result)) device.old device.new }
 {
     let at = u64::from(number) * buffer.len() as u64;
     let count = device.read_at(at, buffer)?;
@@ -46,12 +44,8 @@ pub(crate) fn read_content<D: Device>(
     requires { IsFileShape shape.now }
     ensures read { IfOk result (IsReadOf shape.now number (D.bytes device.old)) }
     ensures once { OnOk result (D.reads device.new ≡ bump (D.reads device.old)) }
-    ensures bytes { D.bytes device.new ≡ D.bytes device.old }
-    ensures writes { D.writes device.new ≡ D.writes device.old }
-    ensures landings { D.landings device.new ≡ D.landings device.old }
-    ensures reach { D.reach device.new ≡ D.reach device.old }
-    ensures later { D.faults device.old ≤ D.faults device.new }
-    ensures fault { result ≡ Err ReadFault.DeviceFault → Rose (D.faults device.old) (D.faults device.new) }
+    ensures unwritten { IsUnwritten D.bytes D.writes D.landings device.old device.new }
+    ensures device { IsFaithful D.reach D.faults (result ≡ Err ReadFault.DeviceFault) device.old device.new }
 {
     let bytes = read_bytes(alloc, device, shape.size, number)?;
     Ok(content_shown(alloc, shape, number, &bytes)?)
@@ -68,12 +62,8 @@ pub fn read_bytes<D: Device>(
     ensures read { IfOk result (λ bytes. AreBytesOf (D.bytes device.old) size number bytes.items) }
     ensures length { IfOk result (λ bytes. length bytes.items ≡ size) }
     ensures once { OnOk result (D.reads device.new ≡ bump (D.reads device.old)) }
-    ensures bytes { D.bytes device.new ≡ D.bytes device.old }
-    ensures writes { D.writes device.new ≡ D.writes device.old }
-    ensures landings { D.landings device.new ≡ D.landings device.old }
-    ensures reach { D.reach device.new ≡ D.reach device.old }
-    ensures later { D.faults device.old ≤ D.faults device.new }
-    ensures fault { result ≡ Err ReadFault.DeviceFault → Rose (D.faults device.old) (D.faults device.new) }
+    ensures unwritten { IsUnwritten D.bytes D.writes D.landings device.old device.new }
+    ensures device { IsFaithful D.reach D.faults (result ≡ Err ReadFault.DeviceFault) device.old device.new }
 {
     let mut bytes = vec![in alloc; 0u8; size as usize]?;
     read_page(device, number, &mut bytes)?;

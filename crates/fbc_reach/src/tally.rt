@@ -1,6 +1,6 @@
 //! The pages that were named, and what was found of each in its roles.
 
-ghost use Rattle.std.specs.Prelude.{◌≡◌, ◌↔◌, ◌≤◌, ◌++◌, ◌∷◌, [], ℕ, List, Option, true, false, Some, None, find, is_some, nat_eq, if◌then◌else◌, Contains, IfOk, OnOk, OnErr, Err};
+ghost use Rattle.std.specs.Prelude.{◌≡◌, ◌↔◌, ◌++◌, ◌∷◌, [], ℕ, List, Option, true, false, Some, None, find, is_some, nat_eq, if◌then◌else◌, Contains, IfOk, OnOk, OnErr, Err};
 ghost use Rattle.std.specs.List.{list_any};
 ghost use Rattle.std.specs.List.Sorted.{IsStrictlyIncreasing};
 ghost use Rattle.std.specs.Option.{option_copied, option_map, option_or};
@@ -12,7 +12,8 @@ ghost use Rattle.fbc_reach.specs.Tally.{IsJudged, IsTallyOf, has_late_version};
 ghost use Rattle.fbc_reach.specs.Roles.{is_same_role};
 ghost use Rattle.fbc_reach.specs.Walk.{naming, is_of_page};
 ghost use Rattle.fbc_reach.specs.declared.namings.Naming.{Naming};
-ghost use Rattle.fbc_outside.specs.Faults.{bump, Rose};
+ghost use Rattle.fbc_outside.specs.Faults.{bump};
+ghost use Rattle.fbc_outside.specs.Frames.{IsFaithful, IsUnwritten};
 ghost use Rattle.fbc_kinds.specs.declared.shapes.Shape.{Shape};
 
 use crate::content::{Content, PageRead, Version};
@@ -239,12 +240,8 @@ impl Tally {
         ensures next { self.new.next ≡ self.old.next }
         ensures again { is_some (get nat_eq self.old.pages naming.page) ≡ true → D.reads device.new ≡ D.reads device.old }
         ensures once { is_some (get nat_eq self.old.pages naming.page) ≡ false → OnOk result (D.reads device.new ≡ bump (D.reads device.old)) }
-        ensures bytes { D.bytes device.new ≡ D.bytes device.old }
-        ensures writes { D.writes device.new ≡ D.writes device.old }
-        ensures landings { D.landings device.new ≡ D.landings device.old }
-        ensures reach { D.reach device.new ≡ D.reach device.old }
-        ensures later { D.faults device.old ≤ D.faults device.new }
-        ensures fault { result ≡ Err ReadFault.DeviceFault → Rose (D.faults device.old) (D.faults device.new) }
+        ensures unwritten { IsUnwritten D.bytes D.writes D.landings device.old device.new }
+        ensures device { IsFaithful D.reach D.faults (result ≡ Err ReadFault.DeviceFault) device.old device.new }
     {
         if self.judge_again(naming, shape.size) {
             return Ok(());
@@ -267,12 +264,8 @@ impl Tally {
             → IsTallyOf shape.now (D.bytes device.old) done self.old
             → IsTallyOf shape.now (D.bytes device.old) (done ++ namings.now) self.new) }
         ensures next { self.new.next ≡ self.old.next }
-        ensures bytes { D.bytes device.new ≡ D.bytes device.old }
-        ensures writes { D.writes device.new ≡ D.writes device.old }
-        ensures landings { D.landings device.new ≡ D.landings device.old }
-        ensures reach { D.reach device.new ≡ D.reach device.old }
-        ensures later { D.faults device.old ≤ D.faults device.new }
-        ensures fault { result ≡ Err ReadFault.DeviceFault → Rose (D.faults device.old) (D.faults device.new) }
+        ensures unwritten { IsUnwritten D.bytes D.writes D.landings device.old device.new }
+        ensures device { IsFaithful D.reach D.faults (result ≡ Err ReadFault.DeviceFault) device.old device.new }
     {
         for naming in namings {
             self.note(alloc, device, shape, *naming)?;

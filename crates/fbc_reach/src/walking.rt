@@ -1,11 +1,11 @@
 //! The walk: from the header over the pointer pages to the data pages.
 
-ghost use Rattle.std.specs.Prelude.{◌≡◌, ◌≤◌, ◌<◌, ◌++◌, ℕ, List, Some, Err, IfOk, OnOk, nat_eq, slice_get};
+ghost use Rattle.std.specs.Prelude.{◌≡◌, ◌<◌, ◌++◌, ℕ, List, Some, Err, IfOk, OnOk, nat_eq, slice_get};
 ghost use Rattle.indexmap.specs.IndexMap.{get};
 ghost use Rattle.fbc_kinds.specs.File.{IsViewOf};
 ghost use Rattle.fbc_kinds.specs.HeaderSpelling.{IsHeader, IsFileShape};
 ghost use Rattle.fbc_kinds.specs.View.{View, header_of};
-ghost use Rattle.fbc_outside.specs.Faults.{Rose};
+ghost use Rattle.fbc_outside.specs.Frames.{IsFaithful, IsUnwritten};
 ghost use Rattle.fbc_reach.specs.Content.{IsReadOf};
 ghost use Rattle.fbc_reach.specs.Roles.{is_same_role};
 ghost use Rattle.fbc_reach.specs.Tally.{HasFewSlots, IsTallyOf, KeepsFewSlots, HasFewPlaces, is_walked_for, named_as_kept, named_by_tally, named_in_content};
@@ -53,12 +53,8 @@ pub fn walk<D: Device>(
         → header_of view ≡ Some header.now
         → visited.found.items ≡ data_namings view) }
     ensures next { IfOk result (λ visited. visited.tally.next ≡ header.now.next) }
-    ensures bytes { D.bytes device.new ≡ D.bytes device.old }
-    ensures writes { D.writes device.new ≡ D.writes device.old }
-    ensures landings { D.landings device.new ≡ D.landings device.old }
-    ensures reach { D.reach device.new ≡ D.reach device.old }
-    ensures later { D.faults device.old ≤ D.faults device.new }
-    ensures fault { result ≡ Err ReadFault.DeviceFault → Rose (D.faults device.old) (D.faults device.new) }
+    ensures unwritten { IsUnwritten D.bytes D.writes D.landings device.old device.new }
+    ensures device { IsFaithful D.reach D.faults (result ≡ Err ReadFault.DeviceFault) device.old device.new }
 {
     let mut tally = Tally::new(alloc, header.next);
     let start = Naming {

@@ -1,30 +1,17 @@
 -- Who may come, and by which name.
-use Rattle.std.proofs.Common.{◌≡◌, ◌≢◌, ◌↔◌, ◌∙◌, ap, ℕ, ◌+◌, Bool, IsTrue, true, false, ◌==◌, ◌||◌, if◌then◌else◌, List, [], ◌∷◌, take, reverse, Some, slice_get, sym, subst, refl, arith}
+use Rattle.std.proofs.Common.{◌≡◌, ◌≢◌, ◌↔◌, ◌∙◌, ap, ℕ, Bool, IsTrue, true, false, ◌==◌, ◌||◌, List, [], ◌∷◌, sym, refl, arith}
 use Rattle.std.specs.List.{list_any}
 use Rattle.std.proofs.lemmas.Bool.Decides.{nat_tests}
 use Rattle.fbc_legal.specs.Guards.{GuardOfEnter}
-use Rattle.fbc_legal.specs.Lives.{living, living_step, name_of, name_step}
+use Rattle.fbc_legal.specs.Lives.{living, name_of}
 use Rattle.fbc_owner_queues.specs.Living.{has}
 use Rattle.fbc_world.proofs.WorldLaws.{IsReplayed-world}
-use Rattle.fbc_world.specs.declared.events.Event.{Event}
-use Rattle.fbc_world.specs.History.{History, Recording, none_landed, recorded}
+use Rattle.fbc_world.specs.History.{History, Recording, recorded}
 use Rattle.fbc_world.specs.Owners.{is_alive}
 use Rattle.fbc_world.specs.PageCell.{blank_file}
 use Rattle.fbc_region.specs.Conditions.{MayCome}
 use Rattle.fbc_region.specs.Stepping.{recorded_scene}
-use Rattle.fbc_region.proofs.Coming.{reverse_next}
 use Rattle.fbc_region.proofs.Living.{has_living}
-
--- Names after one event more.
-pub name_next : (events : List Event) (k : ℕ) (event : Event) (owner : ℕ) → slice_get events k ≡ Some event
-    → name_of (none_landed (reverse (take (k + 1) events))) owner
-    ≡ (if event.actor == owner then name_step (name_of (none_landed (reverse (take k events))) owner) event.act else name_of (none_landed (reverse (take k events))) owner)
-name_next events k event owner at = ap (λ es. name_of (none_landed es) owner) (reverse_next events k event at)
-
--- The living after one event more.
-pub living_next : (events : List Event) (k : ℕ) (event : Event) → slice_get events k ≡ Some event
-    → living (none_landed (reverse (take (k + 1) events))) ≡ living_step (living (none_landed (reverse (take k events)))) event.actor event.act
-living_next events k event at = ap (λ es. living (none_landed es)) (reverse_next events k event at)
 
 -- Where none of these has the name, an owner among them has another.
 unnamed : (names : ℕ → ℕ) (name : ℕ) (owners : List ℕ) → list_any (λ o. names o == name) owners ≡ false → (other : ℕ) → has owners other ≡ true → names other ≢ name
@@ -57,7 +44,7 @@ module _ (journal : Recording) (who name : ℕ) where
   lives : (other : ℕ) → (recorded_scene journal).world.is_alive other ≡ is_alive h other
   lives other = (IsReplayed-world journal.shape blank_file h).alive_is other
 
-  pub guard_of : MayCome h (living h) who name → GuardOfEnter (recorded_scene journal) who name
+  pub guard_of : MayCome h who name → GuardOfEnter (recorded_scene journal) who name
   guard_of may = record {
     next = may.next;
     few = may.within;
@@ -67,7 +54,7 @@ module _ (journal : Recording) (who name : ℕ) where
     fresh = λ other alive. unnamed (name_of h) name (living h) may.fresh other (has_living h other ∙ sym (lives other) ∙ alive);
   }
 
-  of_guard : GuardOfEnter (recorded_scene journal) who name → MayCome h (living h) who name
+  of_guard : GuardOfEnter (recorded_scene journal) who name → MayCome h who name
   of_guard guard = record {
     next = guard.next;
     within = guard.few;
@@ -77,13 +64,6 @@ module _ (journal : Recording) (who name : ℕ) where
     fresh = all_named (name_of h) name (living h) (λ other there. guard.fresh other (lives other ∙ sym (has_living h other) ∙ there));
   }
 
-  here : (owners : List ℕ) (may : Bool) → owners ≡ living h → IsTrue may ↔ MayCome h owners who name → IsTrue may ↔ GuardOfEnter (recorded_scene journal) who name
-  here owners may are iff =
-      let iff' : IsTrue may ↔ MayCome h (living h) who name = subst (λ os. IsTrue may ↔ MayCome h os who name) are iff in
-      ((λ t. guard_of (iff'.0 t)), (λ guard. iff'.1 (of_guard guard)))
-
--- The test of a coming owner over a journal as it is read.
-pub admits : (seen journal : Recording) (who name : ℕ) (owners : List ℕ) (may : Bool) → seen ≡ journal → owners ≡ living (recorded seen)
-    → IsTrue may ↔ MayCome (recorded seen) owners who name → IsTrue may ↔ GuardOfEnter (recorded_scene journal) who name
-admits seen journal who name owners may same are iff =
-    here journal who name owners may (are ∙ ap (λ j. living (recorded j)) same) (subst (λ j. IsTrue may ↔ MayCome (recorded j) owners who name) same iff)
+-- The test of a coming owner.
+pub admits : (journal : Recording) (who name : ℕ) (may : Bool) → IsTrue may ↔ MayCome (recorded journal) who name → IsTrue may ↔ GuardOfEnter (recorded_scene journal) who name
+admits journal who name may iff = ((λ t. guard_of journal who name (iff.0 t)), (λ guard. iff.1 (of_guard journal who name guard)))

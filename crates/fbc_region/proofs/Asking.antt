@@ -101,7 +101,7 @@ module _ (owner : ℕ) (resource : Resource) (level : Level) (word : ℕ) where
       ap (map (with_grant owner resource level)) (entered_again (map (with_waiting owner resource level) (entered s.requests owner resource word)) (waits_there s.requests))
       ∙ map_grant (entered s.requests owner resource word) (entered_all (λ x. is_wait_of owner x ≡ false) s.requests owner resource word (none-find (is_wait_of owner) s.requests idle) (own_wait owner resource word))))
 
-module _ (given before mid : Recording) (table : LockState) (owners owner : ℕ) (resource : Resource) (level : Level) (wait : Bool) (word : ℕ) (seen : before ≡ given) (k : IsKept before table owners)
+module _ (given before mid : Recording) (table : LockState) (owner : ℕ) (resource : Resource) (level : Level) (wait : Bool) (word : ℕ) (seen : before ≡ given) (k : IsKept before table)
     (alive : is_alive (recorded given) owner ≡ true) (may : MayAsk (locks_in given) owner resource level) (room : HasRoom given 9)
     (events : mid.events ≡ before.events ++ by owner (Ask resource level wait word) ∷ []) (spare : mid.spare + 1 ≡ before.spare) where
   room_here : HasRoom before 9
@@ -114,22 +114,22 @@ module _ (given before mid : Recording) (table : LockState) (owners owner : ℕ)
   idle_here = subst (λ s. wait_of s owner ≡ None) (sym (k.requests ∙ ap locks_in seen)) may.waits_for_nothing
 
   came_here : owner ≤ lives.entered (recorded before)
-  came_here = omega (arith, k.living_came owner alive_here, k.count)
+  came_here = k.living_came owner alive_here
 
   come_queued : AllByRecursion (IsOfCome (recorded before)) (after_ask table owner resource level word Queued).requests
   come_queued =
       come_map (recorded before) (with_waiting owner resource level) (λ x. refl) (λ x. refl) (entered table.requests owner resource word) (come_entered (recorded before) table.requests owner resource word alive_here came_here k.come)
 
   kept_asked : (answer : Asked) (next : LockState) → answer ≡ answer_to_ask table owner resource level wait → next ≡ asked table owner resource level word answer
-      → AllByRecursion (IsOfCome (recorded before)) next.requests → IsKept mid next owners
+      → AllByRecursion (IsOfCome (recorded before)) next.requests → IsKept mid next
   kept_asked answer next answers is come =
-      kept_still before mid owner (Ask resource level wait word) refl events table next owners k spare (omega (arith, room_here)) (is ∙ ap (asked table owner resource level word) answers) come
+      kept_still before mid owner (Ask resource level wait word) refl events table next k spare (omega (arith, room_here)) (is ∙ ap (asked table owner resource level word) answers) come
 
   uses_mid : UsesRoom before mid 1
   uses_mid = room_still before mid owner (Ask resource level wait word) refl events spare
 
   -- Refused.
-  pub kept_refused : (answer : Asked) (next : LockState) → answer ≡ answer_to_ask table owner resource level wait → next ≡ table → asked table owner resource level word answer ≡ table → IsKept mid next owners
+  pub kept_refused : (answer : Asked) (next : LockState) → answer ≡ answer_to_ask table owner resource level wait → next ≡ table → asked table owner resource level word answer ≡ table → IsKept mid next
   kept_refused answer next answers is same = kept_asked answer next answers (is ∙ sym same) (rw is k.come)
 
   -- Waiting.
@@ -139,12 +139,12 @@ module _ (given before mid : Recording) (table : LockState) (owners owner : ℕ)
   pub eight_live : length (living (recorded before)) ≤ 8
   eight_live = k.few
 
-  pub kept_waiting : (next : LockState) → Queued ≡ answer_to_ask table owner resource level wait → next ≡ after_ask table owner resource level word Queued → None ≡ circle_from next owner → IsKept mid next owners
+  pub kept_waiting : (next : LockState) → Queued ≡ answer_to_ask table owner resource level wait → next ≡ after_ask table owner resource level word Queued → None ≡ circle_from next owner → IsKept mid next
   kept_waiting next answers is none =
       kept_asked Queued next answers (is ∙ rw (sym (rw is at none)) refl) (rw is come_queued)
 
   pub kept_circle : (queued next : LockState) (circle : List ℕ) → Queued ≡ answer_to_ask table owner resource level wait → queued ≡ after_ask table owner resource level word Queued
-      → Some circle ≡ circle_from queued owner → next ≡ withdrawn queued owner → IsKept mid next owners
+      → Some circle ≡ circle_from queued owner → next ≡ withdrawn queued owner → IsKept mid next
   kept_circle queued next circle answers is some gone =
       kept_asked Queued next answers (gone ∙ ap (λ s. withdrawn s owner) is ∙ rw (sym (rw is at some)) refl)
       (rw (gone, is) (come_withdrawn (recorded before) (after_ask table owner resource level word Queued) owner come_queued))
@@ -152,7 +152,7 @@ module _ (given before mid : Recording) (table : LockState) (owners owner : ℕ)
   -- Granted at once.
   module _ (after : Recording) (next : LockState) (answers : Granted ≡ answer_to_ask table owner resource level wait) (is : next ≡ after_ask table owner resource level word Granted)
       (more : after.events ≡ mid.events ++ by owner (Grant resource level) ∷ []) (fewer : after.spare + 1 ≡ mid.spare) where
-    kept_mid : IsKept mid (after_ask table owner resource level word Queued) owners
+    kept_mid : IsKept mid (after_ask table owner resource level word Queued)
     kept_mid = kept_asked Granted (after_ask table owner resource level word Queued) answers refl come_queued
 
     come_granted : AllByRecursion (IsOfCome (recorded mid)) (map (with_grant owner resource level) (entered (after_ask table owner resource level word Queued).requests owner resource 0))
@@ -160,14 +160,14 @@ module _ (given before mid : Recording) (table : LockState) (owners owner : ℕ)
         come_map (recorded mid) (with_grant owner resource level) (λ x. refl) (λ x. refl) (entered (after_ask table owner resource level word Queued).requests owner resource 0)
         (subst (AllByRecursion (IsOfCome (recorded mid))) (sym (entered_again owner resource level word (after_ask table owner resource level word Queued).requests (waits_there owner resource level word table.requests))) kept_mid.come)
 
-    pub kept_granted : IsKept after next owners
+    pub kept_granted : IsKept after next
     kept_granted =
         rw is (rw (granted_at_once owner resource level word table idle_here)
-        (kept_still mid after owner (Grant resource level) refl more (after_ask table owner resource level word Queued) (granted_to (after_ask table owner resource level word Queued) owner resource level) owners kept_mid fewer
+        (kept_still mid after owner (Grant resource level) refl more (after_ask table owner resource level word Queued) (granted_to (after_ask table owner resource level word Queued) owner resource level) kept_mid fewer
         (uses_mid 1 (omega (arith, room_here))) refl come_granted))
 
 -- The ask and the grant recorded together.
-module _ (given before after : Recording) (table : LockState) (owners owner : ℕ) (resource : Resource) (level : Level) (wait : Bool) (word : ℕ) (seen : before ≡ given) (k : IsKept before table owners)
+module _ (given before after : Recording) (table : LockState) (owner : ℕ) (resource : Resource) (level : Level) (wait : Bool) (word : ℕ) (seen : before ≡ given) (k : IsKept before table)
     (alive : is_alive (recorded given) owner ≡ true) (may : MayAsk (locks_in given) owner resource level) (room : HasRoom given 9)
     (events : after.events ≡ before.events ++ by owner (Ask resource level wait word) ∷ by owner (Grant resource level) ∷ []) (spare : after.spare + 2 ≡ before.spare) where
   -- The journal between the two.
@@ -180,8 +180,8 @@ module _ (given before after : Recording) (table : LockState) (owners owner : �
   one_behind : after.events ≡ mid.events ++ by owner (Grant resource level) ∷ []
   one_behind = events ∙ sym (append_assoc before.events (by owner (Ask resource level wait word) ∷ []) (by owner (Grant resource level) ∷ []))
 
-  pub kept_both : (next : LockState) → Granted ≡ answer_to_ask table owner resource level wait → next ≡ after_ask table owner resource level word Granted → IsKept after next owners
-  kept_both next answers is = kept_granted given before mid table owners owner resource level wait word seen k alive may room refl mid_spare after next answers is one_behind refl
+  pub kept_both : (next : LockState) → Granted ≡ answer_to_ask table owner resource level wait → next ≡ after_ask table owner resource level word Granted → IsKept after next
+  kept_both next answers is = kept_granted given before mid table owner resource level wait word seen k alive may room refl mid_spare after next answers is one_behind refl
 
 -- Who waits for nothing withdraws nothing.
 nothing_filtered : (owner : ℕ) (rs : List Request) → find (is_wait_of owner) rs ≡ None → map (without_wait owner) (filter (λ r. not (is_bare_wait_of owner r)) rs) ≡ rs
@@ -210,11 +210,11 @@ nothing_withdrawn s owner idle = ap (λ rs. record s { requests = rs }) (nothing
   none (Some r) is = absurd cc
 
 -- A withdrawal.
-module _ (given before mid : Recording) (table : LockState) (owners owner : ℕ) (seen : before ≡ given) (k : IsKept before table owners) (room : HasRoom given 9)
+module _ (given before mid : Recording) (table : LockState) (owner : ℕ) (seen : before ≡ given) (k : IsKept before table) (room : HasRoom given 9)
     (events : mid.events ≡ before.events ++ by owner Withdraw ∷ []) (spare : mid.spare + 1 ≡ before.spare) where
-  pub kept_withdrawn : (next : LockState) → next ≡ withdrawn table owner → IsKept mid next owners
+  pub kept_withdrawn : (next : LockState) → next ≡ withdrawn table owner → IsKept mid next
   kept_withdrawn next is =
-      kept_still before mid owner Withdraw refl events table next owners k spare (omega (arith, subst (λ j. HasRoom j 9) (sym seen) room)) is (rw is (come_withdrawn (recorded before) table owner k.come))
+      kept_still before mid owner Withdraw refl events table next k spare (omega (arith, subst (λ j. HasRoom j 9) (sym seen) room)) is (rw is (come_withdrawn (recorded before) table owner k.come))
 
   pub stays_withdrawn : (next : LockState) → next ≡ withdrawn table owner → is_some (wait_of table owner) ≡ false → locks_in mid ≡ locks_in given
   stays_withdrawn next is idle = sym (kept_withdrawn next is).requests ∙ is ∙ nothing_withdrawn table owner idle ∙ k.requests ∙ ap locks_in seen

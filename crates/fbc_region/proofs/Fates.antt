@@ -66,7 +66,7 @@ module _ (h : History) (owner : ℕ) where
     fate : (r : Request) → r.alive ≡ is_alive h r.owner → (not (r.owner == owner) && r.alive) ≡ alive_after owner act r.owner (is_alive h r.owner)
     fate r is = grind (arith, nat_tests, is, death.lives (is_alive h r.owner))
 
-module _ (before after : Recording) (owner : ℕ) (table : LockState) (owners : ℕ) (k : IsKept before table owners) where
+module _ (before after : Recording) (owner : ℕ) (table : LockState) (k : IsKept before table) where
   abbrev h : History
   h = recorded before
 
@@ -83,19 +83,21 @@ module _ (before after : Recording) (owner : ℕ) (table : LockState) (owners : 
     pub came_enter : owner ≡ suc (entered h) → owner ≤ 65536 → entered_step (entered h) (Enter buffers name) ≤ 65536
     came_enter next few = omega (arith, next, few)
 
-    pub kept_enter : owner ≡ suc (entered h) → owner ≤ 65536 → length (living h) < 8 → HasRoom before 2 → IsKept after table owner
+    pub kept_enter : owner ≡ suc (entered h) → owner ≤ 65536 → length (living h) < 8 → HasRoom before 2 → IsKept after table
     kept_enter next few place room = record {
       requests = k.requests ∙ sym (ap locks_of coming);
-      count = next ∙ sym (ap entered coming);
-      within = few;
+      within = omega (arith, now, few);
       few = omega (arith, more_live, place);
       aside = omega (arith, more_live, spare, room);
       come = subst (λ g. AllByRecursion (IsOfCome g) table.requests) (sym coming) (come_enter h owner buffers name next table.requests k.come);
-      living_came = λ other alive. came other (owner == other) refl (sym (ap (λ g. is_alive g other) coming) ∙ alive);
+      living_came = λ other alive. omega (arith, now, came other (owner == other) refl (sym (ap (λ g. is_alive g other) coming) ∙ alive));
     } where
+      now : entered (recorded after) ≡ owner
+      now = ap entered coming ∙ sym next
+
       came : (other : ℕ) (b : Bool) → owner == other ≡ b → (if b then true else is_alive h other) ≡ true → other ≤ owner
       came other true is alive = grind (arith, nat_tests, is)
-      came other false is alive = omega (arith, k.living_came other alive, k.count, next)
+      came other false is alive = omega (arith, k.living_came other alive, next)
 
   module _ (events : after.events ≡ before.events ++ by owner Leave ∷ []) (spare : after.spare + 1 ≡ before.spare) where
     going : recorded after ≡ happens owner Leave false ∷ h
@@ -107,17 +109,16 @@ module _ (before after : Recording) (owner : ℕ) (table : LockState) (owners : 
     pub room_leave : UsesRoom before after 1
     room_leave n room = omega (arith, fewer_live, spare, room)
 
-    pub kept_leave : first_of table owner ≡ None → HasRoom before 1 → IsKept after table owners
+    pub kept_leave : first_of table owner ≡ None → HasRoom before 1 → IsKept after table
     kept_leave none room = record {
       requests = k.requests ∙ sym (ap locks_of going);
-      count = k.count ∙ sym (ap entered going);
-      within = k.within;
+      within = omega (arith, k.within, ap entered going);
       few = omega (arith, fewer_live, k.few);
       aside = omega (arith, fewer_live, spare, room);
       come = subst (λ g. AllByRecursion (IsOfCome g) table.requests) (sym going) (come_leave h owner table.requests none k.come);
-      living_came = λ other alive. came other (owner == other) (sym (ap (λ g. is_alive g other) going) ∙ alive);
+      living_came = λ other alive. omega (arith, ap entered going, came other (owner == other) (sym (ap (λ g. is_alive g other) going) ∙ alive));
     } where
-      came : (other : ℕ) (b : Bool) → (if b then false else is_alive h other) ≡ true → other ≤ owners
+      came : (other : ℕ) (b : Bool) → (if b then false else is_alive h other) ≡ true → other ≤ entered h
       came other true alive = absurd cc
       came other false alive = k.living_came other alive
 
@@ -131,22 +132,24 @@ module _ (before after : Recording) (owner : ℕ) (table : LockState) (owners : 
     pub room_die : (n : ℕ) → HasRoom before n → HasRoom after n
     room_die n room = omega (arith, one_less, spare, room)
 
-    pub kept_die : IsKept after (died table owner) owners
+    pub kept_die : IsKept after (died table owner)
     kept_die = record {
       requests = ap (λ s. died s owner) k.requests ∙ sym (ap locks_of dying ∙ death.locks (locks_of h) owner);
-      count = k.count ∙ sym (ap entered dying ∙ death.count (entered h));
-      within = k.within;
+      within = omega (arith, k.within, same);
       few = omega (arith, one_less, k.few);
       aside = omega (arith, one_less, spare, k.aside);
       come = subst (λ g. AllByRecursion (IsOfCome g) (map (of_dead owner) table.requests)) (sym dying) (come_die h owner act death table.requests k.come);
-      living_came = λ other lives. came other (owner == other) (sym (ap (λ g. is_alive g other) dying) ∙ lives);
+      living_came = λ other lives. omega (arith, same, came other (owner == other) (sym (ap (λ g. is_alive g other) dying) ∙ lives));
     } where
-      came : (other : ℕ) (b : Bool) → (if b then alive_step (is_alive h other) act else is_alive h other) ≡ true → other ≤ owners
+      same : entered (recorded after) ≡ entered h
+      same = ap entered dying ∙ death.count (entered h)
+
+      came : (other : ℕ) (b : Bool) → (if b then alive_step (is_alive h other) act else is_alive h other) ≡ true → other ≤ entered h
       came other true lives = absurd (clash (alive_step (is_alive h other) act) (death.lives (is_alive h other)) lives) where
         clash : (b : Bool) → b ≡ false → b ≡ true → ⊥
         clash b isnt is = cc
       came other false lives = k.living_came other lives
 
 -- There is a place for the death of a living owner.
-pub place_die : (before : Recording) (owner : ℕ) (table : LockState) (owners : ℕ) → IsKept before table owners → is_alive (recorded before) owner ≡ true → 0 < before.spare
-place_die before owner table owners k alive = omega (arith, less_all_but owner (living (recorded before)) (has_living (recorded before) owner ∙ alive), k.aside)
+pub place_die : (before : Recording) (owner : ℕ) (table : LockState) → IsKept before table → is_alive (recorded before) owner ≡ true → 0 < before.spare
+place_die before owner table k alive = omega (arith, less_all_but owner (living (recorded before)) (has_living (recorded before) owner ∙ alive), k.aside)

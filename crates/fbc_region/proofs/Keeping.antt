@@ -76,8 +76,8 @@ module _ (before after : Recording) (actor : ℕ) (act : Act) (still : is_still 
   entered_same : entered (recorded after) ≡ entered (recorded before)
   entered_same = ap entered whole ∙ entered_still (entered (recorded before)) act still
 
-  pub came_still : (table : LockState) (owners : ℕ) → IsKept before table owners → entered_step (entered (recorded before)) act ≤ 65536
-  came_still table owners k = omega (arith, entered_still (entered (recorded before)) act still, k.count, k.within)
+  pub came_still : (table : LockState) → IsKept before table → entered_step (entered (recorded before)) act ≤ 65536
+  came_still table k = omega (arith, entered_still (entered (recorded before)) act still, k.within)
 
   pub locks_still : locks_of (recorded after) ≡ locks_step (locks_of (recorded before)) actor act
   locks_still = ap locks_of whole
@@ -85,30 +85,29 @@ module _ (before after : Recording) (actor : ℕ) (act : Act) (still : is_still 
   pub room_still : after.spare + 1 ≡ before.spare → UsesRoom before after 1
   room_still spare n room = omega (arith, living_same, spare, room)
 
-  pub kept_still : (table next : LockState) (owners : ℕ) → IsKept before table owners → after.spare + 1 ≡ before.spare → HasRoom before 1
-      → next ≡ locks_step table actor act → AllByRecursion (IsOfCome (recorded before)) next.requests → IsKept after next owners
-  kept_still table next owners k spare room step come = record {
+  pub kept_still : (table next : LockState) → IsKept before table → after.spare + 1 ≡ before.spare → HasRoom before 1
+      → next ≡ locks_step table actor act → AllByRecursion (IsOfCome (recorded before)) next.requests → IsKept after next
+  kept_still table next k spare room step come = record {
     requests = step ∙ ap (λ s. locks_step s actor act) k.requests ∙ sym locks_still;
-    count = k.count ∙ sym entered_same;
-    within = k.within;
+    within = omega (arith, k.within, entered_same);
     few = omega (arith, living_same, k.few);
     aside = omega (arith, living_same, spare, room);
     come = subst (λ h. AllByRecursion (IsOfCome h) next.requests) (sym whole) (come_still (recorded before) actor act still next.requests come);
-    living_came = λ owner alive. k.living_came owner (sym (ap (λ h. is_alive h owner) whole ∙ is_alive_still (recorded before) actor act owner still) ∙ alive);
+    living_came = λ owner alive. omega (arith, entered_same, k.living_came owner (sym (ap (λ h. is_alive h owner) whole ∙ is_alive_still (recorded before) actor act owner still) ∙ alive));
   }
 
 -- The same of an act that changes no request.
 pub kept_quiet : (before after : Recording) (actor : ℕ) (act : Act) → is_quiet act ≡ true → after.events ≡ before.events ++ by actor act ∷ []
-    → (table : LockState) (owners : ℕ) → IsKept before table owners → after.spare + 1 ≡ before.spare → HasRoom before 1 → IsKept after table owners
-kept_quiet before after actor act quiet events table owners k spare room =
-    kept_still before after actor act (quiet_is_still act quiet) events table table owners k spare room (sym (quiet_locks table actor act quiet)) k.come
+    → (table : LockState) → IsKept before table → after.spare + 1 ≡ before.spare → HasRoom before 1 → IsKept after table
+kept_quiet before after actor act quiet events table k spare room =
+    kept_still before after actor act (quiet_is_still act quiet) events table table k spare room (sym (quiet_locks table actor act quiet)) k.come
 
 pub room_quiet : (before after : Recording) (actor : ℕ) (act : Act) → is_quiet act ≡ true → after.events ≡ before.events ++ by actor act ∷ [] → after.spare + 1 ≡ before.spare → UsesRoom before after 1
 room_quiet before after actor act quiet events spare = room_still before after actor act (quiet_is_still act quiet) events spare
 
 -- And for no more owners there is a number than came.
-pub came_quiet : (before : Recording) (act : Act) (table : LockState) (owners : ℕ) → is_quiet act ≡ true → IsKept before table owners → entered_step (entered (recorded before)) act ≤ 65536
-came_quiet before act table owners quiet k = omega (arith, entered_still (entered (recorded before)) act (quiet_is_still act quiet), k.count, k.within)
+pub came_quiet : (before : Recording) (act : Act) (table : LockState) → is_quiet act ≡ true → IsKept before table → entered_step (entered (recorded before)) act ≤ 65536
+came_quiet before act table quiet k = omega (arith, entered_still (entered (recorded before)) act (quiet_is_still act quiet), k.within)
 
 -- What uses little room uses no more than a step may.
 pub uses_more : (given after before : Recording) → before ≡ given → UsesRoom before after 1 → UsesRoom given after 9

@@ -1,5 +1,5 @@
-pub mod Coming
 pub mod Living
+pub mod Places
 pub mod Called
 pub mod Pushed
 pub mod Opening
@@ -22,6 +22,7 @@ pub mod Fated
 pub mod Begins
 pub mod BeginsTold
 pub mod Ending
+pub mod Lengthening
 pub mod NextGrants
 pub mod FreeAsks
 pub mod Reaps
@@ -41,3 +42,6 @@ pub mod Showing
 pub mod Staying
 pub mod Admitting
 pub mod StayingAlive
+pub mod StepMoments
+pub mod FollowingGrants
+pub mod ReadAndWritten

@@ -66,7 +66,7 @@ come_lowered h s owner resource Free come = come_filter h (λ r. not (is_of owne
 come_lowered h s owner resource _ come = come_map h (with_granted owner resource _) (λ x. refl) (λ x. refl) s.requests come
 
 -- After grants.
-module _ (before after : Recording) (table later : LockState) (owners : ℕ) (resource : Resource) (grants : List Event) (k : IsKept before table owners) (lawful : IsLawful table)
+module _ (before after : Recording) (table later : LockState) (resource : Resource) (grants : List Event) (k : IsKept before table) (lawful : IsLawful table)
     (adds : Adds before after grants) (are : GrantedOn resource table grants later) (used : before.spare + waits_in later ≤ after.spare + waits_in table) where
   goes : GoesOn table later (recorded before) (recorded after)
   goes = rw (recorded_adds before after grants adds.longer) (grants_follow resource table later grants are lawful (recorded before) (record { requests = k.requests; come = k.come }))
@@ -77,30 +77,29 @@ module _ (before after : Recording) (table later : LockState) (owners : ℕ) (re
   pub room_grants : UsesRoom before after 8
   room_grants n room = omega (arith, same_living, few_wait table (recorded before) lawful k.come, used, k.few, room)
 
-  pub kept_grants : HasRoom before 8 → IsKept after later owners
+  pub kept_grants : HasRoom before 8 → IsKept after later
   kept_grants room = record {
     requests = goes.follows.requests;
-    count = k.count ∙ sym goes.same.entered_is;
-    within = k.within;
+    within = omega (arith, k.within, goes.same.entered_is);
     few = omega (arith, same_living, k.few);
     aside = room_grants 0 (omega (arith, room));
     come = goes.follows.come;
-    living_came = λ owner alive. k.living_came owner (sym (goes.same.alive_is owner) ∙ alive);
+    living_came = λ owner alive. omega (arith, goes.same.entered_is, k.living_came owner (sym (goes.same.alive_is owner) ∙ alive));
   }
 
-pub room_to_grant : (before : Recording) (table : LockState) (owners : ℕ) → IsKept before table owners → IsLawful table → HasRoom before 8 → waits_in table ≤ before.spare
-room_to_grant before table owners k lawful room = omega (arith, few_wait table (recorded before) lawful k.come, k.few, room)
+pub room_to_grant : (before : Recording) (table : LockState) → IsKept before table → IsLawful table → HasRoom before 8 → waits_in table ≤ before.spare
+room_to_grant before table k lawful room = omega (arith, few_wait table (recorded before) lawful k.come, k.few, room)
 
 pub uses_both : (first second third : Recording) → UsesRoom first second 1 → UsesRoom second third 8 → UsesRoom first third 9
 uses_both first second third one eight n room = eight n (one (8 + n) (omega (arith, room)))
 
 -- A lowering.
-module _ (before mid : Recording) (table : LockState) (owners owner : ℕ) (resource : Resource) (level : Level) (k : IsKept before table owners)
+module _ (before mid : Recording) (table : LockState) (owner : ℕ) (resource : Resource) (level : Level) (k : IsKept before table)
     (part : join (granted_of table owner resource) level ≡ granted_of table owner resource)
     (events : mid.events ≡ before.events ++ by owner (Lower resource level) ∷ []) (spare : mid.spare + 1 ≡ before.spare) where
-  pub kept_lowered : HasRoom before 9 → IsKept mid (lowered table owner resource level) owners
+  pub kept_lowered : HasRoom before 9 → IsKept mid (lowered table owner resource level)
   kept_lowered room =
-      kept_still before mid owner (Lower resource level) refl events table (lowered table owner resource level) owners k spare (omega (arith, room)) (lowered_same table owner resource level part)
+      kept_still before mid owner (Lower resource level) refl events table (lowered table owner resource level) k spare (omega (arith, room)) (lowered_same table owner resource level part)
       (come_lowered (recorded before) table owner resource level k.come)
 
   pub room_lowered : UsesRoom before mid 1
@@ -128,7 +127,7 @@ with_one_grant before mid after table later owner resource level is part events 
 }
 
 -- A lowering and its grants, as the ledger sees them.
-module _ (given before mid after : Recording) (table later : LockState) (owners owner : ℕ) (resource : Resource) (level : Level) (seen : before ≡ given) (k : IsKept before table owners)
+module _ (given before mid after : Recording) (table later : LockState) (owner : ℕ) (resource : Resource) (level : Level) (seen : before ≡ given) (k : IsKept before table)
     (part : join (granted_of (locks_in given) owner resource) level ≡ granted_of (locks_in given) owner resource) (room : HasRoom given 9)
     (low : LockState) (is : low ≡ lowered table owner resource level)
     (events : mid.events ≡ before.events ++ by owner (Lower resource level) ∷ []) (shape : mid.shape ≡ before.shape) (spare : mid.spare + 1 ≡ before.spare) (lawful : IsLawful low) where
@@ -138,21 +137,21 @@ module _ (given before mid after : Recording) (table later : LockState) (owners 
   room_here : HasRoom before 9
   room_here = subst (λ j. HasRoom j 9) (sym seen) room
 
-  kept_mid : IsKept mid low owners
-  kept_mid = rw is (kept_lowered before mid table owners owner resource level k part_here events spare room_here)
+  kept_mid : IsKept mid low
+  kept_mid = rw is (kept_lowered before mid table owner resource level k part_here events spare room_here)
 
   room_mid : HasRoom mid 8
-  room_mid = place_lowered before mid table owners owner resource level k part_here events spare room_here
+  room_mid = place_lowered before mid table owner resource level k part_here events spare room_here
 
   pub few_in_lower : lives.entered (recorded mid) ≤ 65536
-  few_in_lower = omega (arith, kept_mid.count, kept_mid.within)
+  few_in_lower = kept_mid.within
 
   pub room_in_lower : waits_in low ≤ mid.spare
-  room_in_lower = room_to_grant mid low owners kept_mid lawful room_mid
+  room_in_lower = room_to_grant mid low kept_mid lawful room_mid
 
   module _ (made : (grants : List Event) × Adds mid after grants × GrantedOn resource low grants later) (used : mid.spare + waits_in later ≤ after.spare + waits_in low) where
-    pub kept_in_lower : IsKept after later owners
-    kept_in_lower = kept_grants mid after low later owners resource made.0 kept_mid lawful made.1 made.2 used room_mid
+    pub kept_in_lower : IsKept after later
+    kept_in_lower = kept_grants mid after low later resource made.0 kept_mid lawful made.1 made.2 used room_mid
 
     pub adds_in_lower : AddsWithGrants given after (by owner (Lower resource level)) (resource ∷ [])
     adds_in_lower =
@@ -162,4 +161,4 @@ module _ (given before mid after : Recording) (table later : LockState) (owners 
     pub uses_in_lower : UsesRoom given after 9
     uses_in_lower =
         subst (λ j. UsesRoom j after 9) seen
-        (uses_both before mid after (room_lowered before mid table owners owner resource level k part_here events spare) (room_grants mid after low later owners resource made.0 kept_mid lawful made.1 made.2 used))
+        (uses_both before mid after (room_lowered before mid table owner resource level k part_here events spare) (room_grants mid after low later resource made.0 kept_mid lawful made.1 made.2 used))

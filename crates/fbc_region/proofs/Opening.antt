@@ -11,17 +11,16 @@ use Rattle.fbc_region.specs.Kept.{IsKept}
 use Rattle.fbc_region.proofs.Living.{none_living}
 use Rattle.fbc_region.proofs.Pushed.{recorded_push}
 
-pub opened_kept : (before after : Recording) (locks owners : ℕ) (table : LockState) → ((owner : ℕ) → is_alive (recorded before) owner ≡ false)
+pub opened_kept : (before after : Recording) (locks : ℕ) (table : LockState) → ((owner : ℕ) → is_alive (recorded before) owner ≡ false)
     → after.events ≡ before.events ++ record { actor = 0; act = Opened locks } ∷ [] → table ≡ record { capacity = locks; requests = [] }
-    → owners ≡ entered (recorded before) → entered (recorded before) ≤ 65536 → IsKept after table owners
-opened_kept before after locks owners table none is empty count within =
+    → entered (recorded before) ≤ 65536 → IsKept after table
+opened_kept before after locks table none is empty within =
     let whole = recorded_push before after (record { actor = 0; act = Opened locks }) is in
     let none_after : (owner : ℕ) → is_alive (record { event = record { actor = 0; act = Opened locks }; landed = false } ∷ recorded before) owner ≡ false = λ owner. grind (arith, none owner) in
     let few : length (living (recorded after)) ≡ 0 = ap (λ h. length (living h)) whole ∙ ap length (none_living (recorded before) none) in
     record {
       requests = empty ∙ sym (ap locks_of whole);
-      count = count ∙ sym (ap entered whole);
-      within = omega (arith, count, within);
+      within = omega (arith, ap entered whole, within);
       few = omega (arith, few);
       aside = omega (arith, few);
       come = rw empty tt;

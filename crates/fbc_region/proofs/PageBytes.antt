@@ -1,14 +1,10 @@
 -- The write of a whole page changes the bytes of that page alone.
-use Rattle.std.proofs.Common.{◌≡◌, ◌≢◌, ℕ, ◌+◌, ◌*◌, ◌<◌, ◌≤◌, ◌⊎◌, inl, inr, ◌==◌, Bool, true, false, List, length, take, drop, Some, refl, arith, rules}
-use Rattle.std.proofs.Math.Nat.{mul-le-mul_left, mul_comm}
-use Rattle.std.proofs.lemmas.Bool.{cases_lt}
+use Rattle.std.proofs.Common.{◌≡◌, ◌≢◌, ℕ, ◌*◌, ◌==◌, Bool, true, false, List, length, Some, refl, arith}
 use Rattle.std.proofs.lemmas.Bool.Decides.{nat_tests}
-use Rattle.std.proofs.lemmas.List.{places, same_lists}
 use Rattle.std.specs.Prelude.{if◌then◌else◌}
 use Rattle.fbc_kinds.specs.declared.pages.Page.{Page}
 use Rattle.fbc_kinds.specs.declared.shapes.Shape.{Shape}
 use Rattle.fbc_kinds.specs.File.{IsViewOf, Shows, ShowsPage, page_bytes}
-use Rattle.fbc_kinds.specs.Padding.{padded}
 use Rattle.fbc_kinds.specs.View.{View}
 use Rattle.fbc_legal.proofs.Exclusion.{same_number}
 use Rattle.fbc_outside.specs.Bytes.{written}

@@ -18,27 +18,26 @@ use Rattle.fbc_region.proofs.Lowering.{adds_both, come_filter}
 use Rattle.fbc_region.proofs.Purging.{Comes, purge_comes}
 use Rattle.fbc_region.proofs.Waiting.{few_wait}
 
-pub kept_goes : (before after : Recording) (table later : LockState) (owners : ℕ) → IsKept before table owners → GoesOn table later (recorded before) (recorded after)
-    → length (living (recorded before)) ≤ after.spare → IsKept after later owners
-kept_goes before after table later owners k goes room = record {
+pub kept_goes : (before after : Recording) (table later : LockState) → IsKept before table → GoesOn table later (recorded before) (recorded after)
+    → length (living (recorded before)) ≤ after.spare → IsKept after later
+kept_goes before after table later k goes room = record {
   requests = goes.follows.requests;
-  count = k.count ∙ sym goes.same.entered_is;
-  within = k.within;
+  within = omega (arith, k.within, goes.same.entered_is);
   few = omega (arith, ap length goes.same.living_is, k.few);
   aside = omega (arith, ap length goes.same.living_is, room);
   come = goes.follows.come;
-  living_came = λ owner alive. k.living_came owner (sym (goes.same.alive_is owner) ∙ alive);
+  living_came = λ owner alive. omega (arith, goes.same.entered_is, k.living_came owner (sym (goes.same.alive_is owner) ∙ alive));
 }
 
-module _ (given before mid after : Recording) (table later : LockState) (owners owner dead : ℕ) (ask : Ask) (seen : before ≡ given) (k : IsKept before table owners) (room : HasRoom given 9)
+module _ (given before mid after : Recording) (table later : LockState) (owner dead : ℕ) (ask : Ask) (seen : before ≡ given) (k : IsKept before table) (room : HasRoom given 9)
     (events : mid.events ≡ before.events ++ by owner (Reap dead ask) ∷ []) (shape : mid.shape ≡ before.shape) (spare : mid.spare + 1 ≡ before.spare) (lawful : IsLawful table) where
   room_here : HasRoom before 9
   room_here = subst (λ j. HasRoom j 9) (sym seen) room
 
   -- As if all that the dead owner left went at once.
-  kept_mid : IsKept mid (without_owner table dead) owners
+  kept_mid : IsKept mid (without_owner table dead)
   kept_mid =
-      kept_still before mid owner (Reap dead ask) refl events table (without_owner table dead) owners k spare (omega (arith, room_here)) refl
+      kept_still before mid owner (Reap dead ask) refl events table (without_owner table dead) k spare (omega (arith, room_here)) refl
       (come_filter (recorded before) (λ (r : Request). not (r.owner == dead)) table.requests k.come)
 
   few_wait_here : waits_in table ≤ length (living (recorded before))
@@ -63,8 +62,8 @@ module _ (given before mid after : Recording) (table later : LockState) (owners 
     uses_here : UsesRoom before after 9
     uses_here n more = omega (arith, few_wait_here, used, spare, k.few, same_after, more)
 
-    pub kept_in_reap : IsKept after later owners
-    kept_in_reap = kept_goes mid after (without_owner table dead) later owners kept_mid goes_here (omega (arith, uses_here 0 (omega (arith, room_here)), same_after, same_mid))
+    pub kept_in_reap : IsKept after later
+    kept_in_reap = kept_goes mid after (without_owner table dead) later kept_mid goes_here (omega (arith, uses_here 0 (omega (arith, room_here)), same_after, same_mid))
 
     pub adds_in_reap : AddsWithGrants given after (by owner (Reap dead ask)) (resources_of (locks_in given) dead)
     adds_in_reap = subst (λ j. AddsWithGrants j after (by owner (Reap dead ask)) (resources_of (locks_in j) dead)) seen (record {

@@ -52,5 +52,6 @@ resources_of s owner = map (λ (r : Request). r.resource) (filter (is_by owner) 
 -- come the grants on its resource.
 pub data Purged (dead : ℕ) : LockState → List Event → LockState → Type 0 where
   over : (s later : LockState) (grants : List Event) → first_of s dead ≡ None → later ≡ s → grants ≡ [] → Purged dead s grants later
-  goes : (s mid later : LockState) (grants first rest : List Event) (r : Request) → first_of s dead ≡ Some r → GrantedOn r.resource (without s r.owner r.resource) first mid
+  goes : (s mid later : LockState) (grants first rest : List Event) (r : Request) → first_of s dead ≡ Some r
+      → GrantedOn r.resource (without s r.owner r.resource) first mid
       → grants ≡ first ++ rest → Purged dead mid rest later → Purged dead s grants later

@@ -13,6 +13,8 @@ use Rattle.fbc_world.specs.declared.events.Act.TheVariants.{Ask}
 use Rattle.fbc_world.specs.History.{History, Recording, recorded}
 use Rattle.fbc_world.specs.Locks.{locks_of}
 use Rattle.fbc_world.specs.Owners.{is_alive}
+use Rattle.fbc_region.specs.Census.{IsCensus, most_owners}
+use Rattle.fbc_region.specs.declared.census.Census.{Census}
 use Rattle.fbc_region.specs.Shared.{HasRoom, locks_in}
 
 -- No ask still waits for the grant that follows it at once: so it is between two steps.
@@ -24,22 +26,22 @@ abbrev pub LeavesRest : History → ℕ → Act → Type 0
 LeavesRest before owner (Ask resource level wait word) = ¬ (answer_to_ask (locks_of before) owner resource level wait ≡ Granted)
 LeavesRest before owner _ = Unit {0}
 
--- No more owners come in the journal than there are numbers for, and it does not end within a step.
-pub record IsChronicle (journal : Recording) : Type 0 where
-  pub few : entered (recorded journal) ≤ 65536
+-- No more owners come in the journal than there are numbers for, it does not end within a step, and the census is that of its owners.
+pub record IsChronicle (journal : Recording) (census : Census) : Type 0 where
+  pub few : entered (recorded journal) ≤ most_owners
   pub rests : IsAtRest (recorded journal)
+  pub census_is : IsCensus (recorded journal) census
 
 -- A request is of an owner that came, and says of it whether it is alive.
 abbrev pub IsOfCome : History → Request → Type 0
 IsOfCome history r = (r.alive ≡ is_alive history r.owner) × (r.owner ≤ entered history)
 
--- The table has the requests after what the journal records, each of an owner that came, and the count is of the owners that
--- came, for more of whom there are no numbers; all that are alive are among them. No more than eight are alive, and there is a place for the death of each.
-pub record IsKept (journal : Recording) (table : LockState) (owners : ℕ) : Type 0 where
+-- The table has the requests after what the journal records, each of an owner that came. No more owners came than there are numbers
+-- for, and all that are alive are among them. No more than eight are alive, and there is a place for the death of each.
+pub record IsKept (journal : Recording) (table : LockState) : Type 0 where
   pub requests : table ≡ locks_in journal
-  pub count : owners ≡ entered (recorded journal)
-  pub within : owners ≤ 65536
+  pub within : entered (recorded journal) ≤ most_owners
   pub few : length (living (recorded journal)) ≤ 8
   pub aside : HasRoom journal 0
   pub come : AllByRecursion (IsOfCome (recorded journal)) table.requests
-  pub living_came : (owner : ℕ) → is_alive (recorded journal) owner ≡ true → owner ≤ owners
+  pub living_came : (owner : ℕ) → is_alive (recorded journal) owner ≡ true → owner ≤ entered (recorded journal)

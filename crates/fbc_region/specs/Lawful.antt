@@ -92,6 +92,7 @@ pub record IsLawfulOver (size : ℕ) (bytes : Option (List ℕ)) (journal : Reco
   pub shown : ShowsView journal.shape bytes (world_of journal.shape file (history_of journal landings)).kept
 
 -- What a step owes over a file for these landings.
-pub record MeetsStep (journal : Recording) (file : View) (landings : List Bool) (who : ℕ) (events : List LocalEvent) (image : List ℕ) (asked : Ask) : Type 0 where
+pub record MeetsStep (journal : Recording) (file : View) (landings : List Bool) (who : ℕ) (events : List LocalEvent) (image : List ℕ) (asked : Ask)
+    : Type 0 where
   pub guards : MeetsGuards journal.shape file (history_of journal landings) who events asked
   pub image_is : MeetsImage (scene_of journal.shape file (with_locals (history_of journal landings) who events)) who image asked

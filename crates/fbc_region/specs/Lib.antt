@@ -1,8 +1,11 @@
 pub mod Shared
 pub mod Adding
+pub mod Census
 pub mod Granting
 pub mod Answering
 pub mod Stepping
 pub mod Kept
 pub mod Lawful
+pub mod Steps
+pub mod WholePages
 pub mod Conditions

@@ -1,5 +1,5 @@
 -- One atomic step: when it may be taken, and what it comes to.
-use Rattle.std.specs.Prelude.{◌≡◌, ℕ, ◌+◌, ◌*◌, ◌-◌, ◌≤◌, min, Bool, true, false, List, [], ◌∷◌, ◌++◌, length, take, drop, replicate, Option, Some, None}
+use Rattle.std.specs.Prelude.{◌≡◌, ◌⊎◌, ℕ, ◌+◌, ◌*◌, ◌-◌, ◌≤◌, min, Bool, true, false, List, [], ◌∷◌, ◌++◌, length, take, drop, replicate, Option, Some, None}
 use Rattle.fbc_blocking.specs.Callbacks.{IsNextCallback, KeepsNobodyOut}
 use Rattle.fbc_levels.specs.declared.resources.Series.TheVariants as series
 use Rattle.fbc_levels.specs.Levels.{join}
@@ -33,7 +33,8 @@ recorded_scene journal = scene_of journal.shape blank_file (recorded journal)
 abbrev pub MeetsConditions : ℕ → ℕ → Recording → ℕ → Ask → Type 0
 MeetsConditions reach size journal who ask.Leave = first_of (locks_in journal) who ≡ None
 MeetsConditions reach size journal who (ask.Lock resource level wait word) = MayAsk (locks_in journal) who resource level
-MeetsConditions reach size journal who (ask.Lower resource level) = join (granted_of (locks_in journal) who resource) level ≡ granted_of (locks_in journal) who resource
+MeetsConditions reach size journal who (ask.Lower resource level) =
+    join (granted_of (locks_in journal) who resource) level ≡ granted_of (locks_in journal) who resource
 MeetsConditions reach size journal who (ask.Write page cause) = (page + 1) * size ≤ reach
 MeetsConditions reach size journal who _ = Unit {0}
 
@@ -52,6 +53,10 @@ abbrev pub answers_write : Bool → Answer
 answers_write true = answers.WriteFault
 answers_write false = answers.Written
 
+-- An answer blames the device: a read or a write of it failed.
+abbrev pub BlamesDevice : Answer → Type 0
+BlamesDevice answer = (answer ≡ answers.ReadFault) ⊎ (answer ≡ answers.WriteFault)
+
 -- A poll names the next callback, if one stands.
 abbrev pub AnswersPoll : Recording → ℕ → Option ℕ → Answer → Type 0
 AnswersPoll journal who above (answers.Callback callback) = IsNextCallback (locks_in journal) who above callback
@@ -65,12 +70,17 @@ StepComesTo before after who answer ask.Leave = (answer ≡ answers.Noted) × Ad
 StepComesTo before after who answer (ask.Lock resource level wait word) = IsAsked before after who resource level wait word answer
 StepComesTo before after who answer ask.Look = IsLooked before after who answer
 StepComesTo before after who answer ask.Withdraw =
-    (answer ≡ answer_to_withdrawal (wait_of (locks_in before) who)) × Adds before after (by who act.Withdraw ∷ []) × (answer ≡ answers.Granted → locks_in after ≡ locks_in before)
-StepComesTo before after who answer (ask.Lower resource level) = (answer ≡ answers.Noted) × AddsWithGrants before after (by who (act.Lower resource level)) (resource ∷ [])
-StepComesTo before after who answer (ask.Read page) = (fault : Bool) × (length : ℕ) × (answer ≡ answers_read fault length) × Adds before after (by who (act.Read page fault) ∷ [])
-StepComesTo before after who answer (ask.Write page cause) = (failed : Bool) × (answer ≡ answers_write failed) × Adds before after (by who (act.Write page cause failed) ∷ [])
+    (answer ≡ answer_to_withdrawal (wait_of (locks_in before) who)) × Adds before after (by who act.Withdraw ∷ [])
+    × (answer ≡ answers.Granted → locks_in after ≡ locks_in before)
+StepComesTo before after who answer (ask.Lower resource level) =
+    (answer ≡ answers.Noted) × AddsWithGrants before after (by who (act.Lower resource level)) (resource ∷ [])
+StepComesTo before after who answer (ask.Read page) =
+    (fault : Bool) × (length : ℕ) × (answer ≡ answers_read fault length) × Adds before after (by who (act.Read page fault) ∷ [])
+StepComesTo before after who answer (ask.Write page cause) =
+    (failed : Bool) × (answer ≡ answers_write failed) × Adds before after (by who (act.Write page cause failed) ∷ [])
 StepComesTo before after who answer (ask.Poll above) = AnswersPoll before who above answer × Adds before after (by who (act.Poll above) ∷ [])
-StepComesTo before after who answer ask.Least = (answer ≡ answers.Least (least_data_of (locks_in before) series.Transaction)) × Adds before after (by who act.Least ∷ [])
+StepComesTo before after who answer ask.Least =
+    (answer ≡ answers.Least (least_data_of (locks_in before) series.Transaction)) × Adds before after (by who act.Least ∷ [])
 StepComesTo before after who answer (ask.Note reply) = (answer ≡ answers.Noted) × Adds before after (by who (act.Note reply) ∷ [])
 
 -- A step records what the owner did in its own cache, and then its own event with the grants that it causes.

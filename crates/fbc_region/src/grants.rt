@@ -5,6 +5,7 @@ ghost use Rattle.fbc_legal.specs.Lives.{entered};
 ghost use Rattle.fbc_levels.specs.Levels.{join};
 ghost use Rattle.fbc_levels.specs.LockState.{IsDead, IsLawful, granted_of};
 ghost use Rattle.fbc_region.specs.Adding.{Adds, UsesRoom, by};
+ghost use Rattle.fbc_region.specs.Census.{most_owners};
 ghost use Rattle.fbc_region.specs.Granting.{AddsWithGrants, GrantedOn, Purged, resources_of, waits_in};
 ghost use Rattle.fbc_region.specs.Shared.{HasRoom, locks_in};
 ghost use Rattle.fbc_world.specs.declared.events.Act.TheVariants as act;
@@ -22,11 +23,11 @@ use fbc_world::{Act, Ask, Event};
 /// Grants what waits for the resource, in the order of asking, until nobody can be granted, and records each grant.
 pub(crate) fn grant_all(table: &mut LockTable, chronicle: &mut Chronicle, resource: Resource)
     requires lawful { IsLawful table.old }
-    requires few { entered (recorded chronicle.old) ≤ 65536 }
+    requires few { entered (recorded chronicle.old) ≤ most_owners }
     requires room { waits_in table.old ≤ chronicle.old.spare }
     ensures grants { (grants : List AnEvent) × Adds chronicle.old chronicle.new grants × GrantedOn resource table.old grants table.new }
     ensures lawful { IsLawful table.new }
-    ensures few { entered (recorded chronicle.new) ≤ 65536 }
+    ensures few { entered (recorded chronicle.new) ≤ most_owners }
     ensures room { chronicle.old.spare + waits_in table.new ≤ chronicle.new.spare + waits_in table.old }
 {
     while let Some(owner) = grant_waiting(table, resource) {
@@ -42,7 +43,7 @@ pub(crate) fn grant_all(table: &mut LockTable, chronicle: &mut Chronicle, resour
 fn purge_all(table: &mut LockTable, chronicle: &mut Chronicle, dead: u32)
     requires dead { IsDead table.old dead }
     requires lawful { IsLawful table.old }
-    requires few { entered (recorded chronicle.old) ≤ 65536 }
+    requires few { entered (recorded chronicle.old) ≤ most_owners }
     requires room { waits_in table.old ≤ chronicle.old.spare }
     ensures grants { (grants : List AnEvent) × Adds chronicle.old chronicle.new grants × Purged dead table.old grants table.new }
     ensures room { chronicle.old.spare + waits_in table.new ≤ chronicle.new.spare + waits_in table.old }

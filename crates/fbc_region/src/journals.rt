@@ -45,7 +45,8 @@ pub fn cuts_of_journals_mean_the_machine()
         → IsOfShape journal.shape file → IsSound file → IsLawfulOver size bytes journal file landings
         → IsClosedCut (world_of journal.shape file (history_of journal landings)) cut
         → MeanTheSame (meaning_of (view (world_of journal.shape file (history_of journal landings)) cut))
-        (settled_by [] (commits_in (world_of journal.shape file (history_of journal landings)) cut) (machine_of journal.shape file (history_of journal landings))) }
+        (settled_by [] (commits_in (world_of journal.shape file (history_of journal landings)) cut)
+        (machine_of journal.shape file (history_of journal landings))) }
 {
     every_cut_means_the_machine();
 }
@@ -54,7 +55,8 @@ pub fn cuts_of_journals_mean_the_machine()
 pub fn newest_pages_of_journals_mean_the_machine()
     ensures { (size : ℕ) (bytes : Option (List ℕ)) (journal : Recording) (file : View) (landings : List Bool)
         → IsOfShape journal.shape file → IsSound file → IsLawfulOver size bytes journal file landings
-        → MeanTheSame (meaning_with (opens_at (scene_of journal.shape file (history_of journal landings))) (newest_of (world_of journal.shape file (history_of journal landings))))
+        → MeanTheSame (meaning_with (opens_at (scene_of journal.shape file (history_of journal landings)))
+        (newest_of (world_of journal.shape file (history_of journal landings))))
         (machine_of journal.shape file (history_of journal landings)) }
 {
     newest_pages_mean_the_machine();

@@ -1,10 +1,11 @@
-//! The ledger: the journal, with the lock table and the census of owners that go with it.
+//! The ledger: the journal and its census, with the lock table that goes with it.
 
-ghost use Rattle.std.specs.Prelude.{◌≡◌, ◌↔◌, ◌<◌, ◌≤◌, ◌*◌, ◌+◌, ◌++◌, ◌∷◌, [], ℕ, suc, true, false, None, length, IsTrue, IsSome, IfOk, IfErr, OnOk};
+ghost use Rattle.std.specs.Prelude.{◌≡◌, ◌↔◌, ◌<◌, ◌≤◌, ◌*◌, ◌+◌, ◌∷◌, [], ℕ, suc, true, false, None, length, IsTrue, IsSome, IfOk, IfErr, OnOk};
 ghost use Rattle.fbc_blocking.specs.Callbacks.{blocked_by};
-ghost use Rattle.fbc_legal.specs.Lives.{entered, entered_step, living};
+ghost use Rattle.fbc_legal.specs.Lives.{entered, living};
 ghost use Rattle.fbc_owner_queues.specs.Grants.{first_of};
 ghost use Rattle.fbc_region.specs.Adding.{Adds, UsesRoom, by, is_quiet, local_events};
+ghost use Rattle.fbc_region.specs.Census.{most_owners};
 ghost use Rattle.fbc_region.specs.Kept.{IsAtRest};
 ghost use Rattle.fbc_region.specs.Shared.{HasReserved, HasRoom, locks_in};
 ghost use Rattle.fbc_levels.specs.declared.resources.Series.TheVariants as series;
@@ -15,25 +16,22 @@ ghost use Rattle.fbc_world.specs.declared.events.Act.TheVariants as act;
 ghost use Rattle.fbc_world.specs.History.{recorded};
 ghost use Rattle.fbc_world.specs.Owners.{is_alive};
 
+use crate::census::LIVING;
 use crate::chronicles::Chronicle;
 use fbc_blocking::next_callback;
 use fbc_levels::Series;
 use fbc_lock_table::LockTable;
-use fbc_world::{Act, Answer, Cause, Event, Journal, LocalEvent};
+use fbc_world::{Act, Answer, Cause, Event, LocalEvent};
 use std::alloc::{AllocError, Global};
 use std::marker::Model;
 
 /// One step adds so many events at most.
 const EVENTS_OF_STEP: u32 = 73;
 
-/// So many owners are alive at most.
-const LIVING: u32 = 8;
-
-/// The journal, seen by contracts as what it records, with the requests and the count of owners that it leads to.
+/// The journal, seen by contracts as what it records, with the requests that it leads to.
 #[derive(Drop)]
 pub(crate) struct Ledger {
     pub(crate) table: LockTable,
-    pub(crate) owners: u32,
     pub(crate) chronicle: Chronicle,
 }
 
@@ -45,7 +43,7 @@ impl Model for Ledger {
 
     ghost view = { λ l. l.chronicle };
 
-    ghost invariant = { λ l. IsKept l.chronicle l.table l.owners };
+    ghost invariant = { λ l. IsKept l.chronicle l.table };
 }
 
 impl Ledger {
@@ -58,20 +56,19 @@ impl Ledger {
         ensures spare_back { IfErr result (λ back. journal.spare ≤ back.spare) }
     {
         let mut journal = journal;
+        journal.is_at_rest();
         let Ok(table) = LockTable::new(alloc, locks) else {
             return Err(journal);
         };
         if journal.reserve(1).is_err() {
             return Err(journal);
         }
-        let owners = owners_of(journal.journal());
         journal.push(Event {
             actor: 0,
             act: Act::Opened { locks },
         });
         Ok(Ledger {
             table,
-            owners,
             chronicle: journal,
         })
     }
@@ -113,13 +110,12 @@ impl Ledger {
     /// An owner comes, the next one of all, where fewer than eight are alive.
     pub(crate) fn enter(&mut self, owner: u32, buffers: u32, name: u8)
         requires next { owner ≡ suc (entered (recorded self.old)) }
-        requires few { owner ≤ 65536 }
+        requires few { owner ≤ most_owners }
         requires place { length (living (recorded self.old)) < 8 }
         requires room { HasRoom self.old 2 }
         ensures adds { Adds self.old self.new (by owner (act.Enter buffers name) ∷ []) }
         ensures room { UsesRoom self.old self.new 2 }
     {
-        self.owners = owner;
         self.chronicle.push(Event {
             actor: owner,
             act: Act::Enter { buffers, name },
@@ -220,31 +216,5 @@ fn events_of(steps: u32) -> Result<u32, AllocError>
         Ok(events as u32)
     } else {
         Err(AllocError)
-    }
-}
-
-/// How many owners come in the journal.
-fn owners_of(journal: &Journal) -> u32
-    requires { entered (recorded journal.now) ≤ 65536 }
-    ensures { result ≡ entered (recorded journal.now) }
-{
-    let mut owners = 0;
-    for k in 0..journal.length() {
-        owners = owners_after(owners, &journal.event(k).act);
-    }
-    owners
-}
-
-/// How many owners have come after the act, where so many had before.
-fn owners_after(owners: u32, act: &Act) -> u32
-    requires { entered_step owners act.now ≤ 65536 }
-    ensures { result ≡ entered_step owners act.now }
-{
-    match act {
-        Act::Enter {
-            buffers: _,
-            name: _,
-        } => owners + 1,
-        _ => owners,
     }
 }

@@ -1,11 +1,11 @@
 //! The steps over the device: a page is read or written.
 
 ghost use Rattle.std.specs.Prelude.{◌≡◌, ◌∷◌, [], ◌+◌, ◌*◌, ◌≤◌, true, length, Bool, ℕ};
-ghost use Rattle.fbc_outside.specs.Faults.{Rose, bump};
+ghost use Rattle.fbc_outside.specs.Faults.{bump};
+ghost use Rattle.fbc_outside.specs.Frames.{IsFaithful, IsUnwritten};
 ghost use Rattle.fbc_region.specs.Adding.{Adds, UsesRoom, by};
 ghost use Rattle.fbc_region.specs.Shared.{HasRoom};
-ghost use Rattle.fbc_region.specs.Stepping.{ReadLeaves, WriteLeaves, answers_read, answers_write};
-ghost use Rattle.fbc_world.specs.declared.answers.Answer.TheVariants as answers;
+ghost use Rattle.fbc_region.specs.Stepping.{BlamesDevice, ReadLeaves, WriteLeaves, answers_read, answers_write};
 ghost use Rattle.fbc_world.specs.declared.events.Act.TheVariants as act;
 ghost use Rattle.fbc_world.specs.History.{recorded};
 ghost use Rattle.fbc_world.specs.Owners.{is_alive};
@@ -29,13 +29,9 @@ pub(crate) fn read_page<D: Device>(
     ensures room { UsesRoom ledger.old ledger.new 1 }
     ensures read { ReadLeaves (D.bytes device.old) (page * size) image.new result }
     ensures image { length image.new ≡ size }
-    ensures bytes { D.bytes device.new ≡ D.bytes device.old }
-    ensures landings { D.landings device.new ≡ D.landings device.old }
-    ensures reach { D.reach device.new ≡ D.reach device.old }
+    ensures unwritten { IsUnwritten D.bytes D.writes D.landings device.old device.new }
     ensures reads { D.reads device.new ≡ bump (D.reads device.old) }
-    ensures writes { D.writes device.new ≡ D.writes device.old }
-    ensures later { D.faults device.old ≤ D.faults device.new }
-    ensures fault { result ≡ answers.ReadFault → Rose (D.faults device.old) (D.faults device.new) }
+    ensures device { IsFaithful D.reach D.faults (BlamesDevice result) device.old device.new }
 {
     match device.read_at(page as u64 * size as u64, image) {
         Ok(count) => {
@@ -69,11 +65,9 @@ pub(crate) fn write_page<D: Device>(
     ensures step { (failed : Bool) × (result ≡ answers_write failed) × Adds ledger.old ledger.new (by who (act.Write page cause failed) ∷ []) }
     ensures room { UsesRoom ledger.old ledger.new 1 }
     ensures written { WriteLeaves (D.bytes device.old) (D.bytes device.new) (D.landings device.old) (D.landings device.new) (page * size) image.now result }
-    ensures reach { D.reach device.new ≡ D.reach device.old }
     ensures reads { D.reads device.new ≡ D.reads device.old }
     ensures writes { D.writes device.new ≡ bump (D.writes device.old) }
-    ensures later { D.faults device.old ≤ D.faults device.new }
-    ensures fault { result ≡ answers.WriteFault → Rose (D.faults device.old) (D.faults device.new) }
+    ensures device { IsFaithful D.reach D.faults (BlamesDevice result) device.old device.new }
 {
     match device.write_at(page as u64 * size as u64, image) {
         Ok(()) => {

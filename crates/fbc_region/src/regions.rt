@@ -4,12 +4,12 @@ ghost use Rattle.std.specs.Prelude.{◌≡◌, ◌↔◌, ◌≤◌, ◌++◌, �
 ghost use Rattle.fbc_blocking.specs.Callbacks.{blocked_by};
 ghost use Rattle.fbc_kinds.specs.View.{View};
 ghost use Rattle.fbc_legal.specs.Lives.{entered};
-ghost use Rattle.fbc_outside.specs.Faults.{Rose, count_after};
+ghost use Rattle.fbc_outside.specs.Faults.{count_after};
+ghost use Rattle.fbc_outside.specs.Frames.{IsFaithful};
 ghost use Rattle.fbc_region.specs.Adding.{Adds, UsesRoom, by};
 ghost use Rattle.fbc_region.specs.Lawful.{IsLawfulOver, MeetsStep, new_landings};
 ghost use Rattle.fbc_region.specs.Shared.{HasReserved, HasRoom, locks_in};
-ghost use Rattle.fbc_region.specs.Stepping.{MayPerform, PagesComeTo, Performs, StepComesTo, is_read, is_write};
-ghost use Rattle.fbc_world.specs.declared.answers.Answer.TheVariants as answers;
+ghost use Rattle.fbc_region.specs.Stepping.{BlamesDevice, MayPerform, PagesComeTo, Performs, StepComesTo, is_read, is_write};
 ghost use Rattle.fbc_world.specs.declared.events.Act.TheVariants as act;
 ghost use Rattle.fbc_world.specs.History.{recorded};
 ghost use Rattle.fbc_world.specs.Owners.{is_alive};
@@ -101,7 +101,14 @@ impl<D> Region<D> {
     pub fn owners(&self) -> u32
         ensures { result ≡ entered (recorded self.now.journal) }
     {
-        self.ledger.owners
+        self.ledger.chronicle.owners()
+    }
+
+    /// Whether the owner is alive.
+    pub fn alive(&self, who: u32) -> bool
+        ensures { result ≡ is_alive (recorded self.now.journal) who }
+    {
+        self.ledger.chronicle.is_alive(who)
     }
 
     /// Whether somebody waits for a page that the owner keeps from it.
@@ -160,18 +167,17 @@ impl<D: Device> Region<D> {
         requires image { length image.old ≡ self.old.size }
         ensures step { Performs self.old.journal self.new.journal who local.now result ask }
         ensures reserved { (n : ℕ) → HasReserved self.old.journal (suc n) → HasReserved self.new.journal n }
-        ensures pages { PagesComeTo self.old.size (D.bytes self.old.device) (D.bytes self.new.device) (D.landings self.old.device) (D.landings self.new.device) image.old image.new result ask }
+        ensures pages { PagesComeTo self.old.size (D.bytes self.old.device) (D.bytes self.new.device)
+            (D.landings self.old.device) (D.landings self.new.device) image.old image.new result ask }
         ensures legal { (file : View) (landings : List Bool) → IsLawfulOver self.old.size (D.bytes self.old.device) self.old.journal file landings
             → MeetsStep self.old.journal file landings who local.now image.old ask
-            → IsLawfulOver self.new.size (D.bytes self.new.device) self.new.journal file (landings ++ new_landings (D.landings self.old.device) (D.landings self.new.device)) }
+            → IsLawfulOver self.new.size (D.bytes self.new.device) self.new.journal file
+            (landings ++ new_landings (D.landings self.old.device) (D.landings self.new.device)) }
         ensures size { self.new.size ≡ self.old.size }
         ensures image { length image.new ≡ length image.old }
-        ensures reach { D.reach self.new.device ≡ D.reach self.old.device }
         ensures reads { D.reads self.new.device ≡ count_after (is_read ask) (D.reads self.old.device) }
         ensures writes { D.writes self.new.device ≡ count_after (is_write ask) (D.writes self.old.device) }
-        ensures later { D.faults self.old.device ≤ D.faults self.new.device }
-        ensures read_fault { result ≡ answers.ReadFault → Rose (D.faults self.old.device) (D.faults self.new.device) }
-        ensures write_fault { result ≡ answers.WriteFault → Rose (D.faults self.old.device) (D.faults self.new.device) }
+        ensures device { IsFaithful D.reach D.faults (BlamesDevice result) self.old.device self.new.device }
     {
         self.ledger.is_at_rest();
         self.ledger.record_all(who, local);
@@ -185,15 +191,13 @@ impl<D: Device> Region<D> {
         requires image { length image.old ≡ self.old.size }
         ensures step { StepComesTo self.old.journal self.new.journal who result ask }
         ensures room { UsesRoom self.old.journal self.new.journal 9 }
-        ensures pages { PagesComeTo self.old.size (D.bytes self.old.device) (D.bytes self.new.device) (D.landings self.old.device) (D.landings self.new.device) image.old image.new result ask }
+        ensures pages { PagesComeTo self.old.size (D.bytes self.old.device) (D.bytes self.new.device)
+            (D.landings self.old.device) (D.landings self.new.device) image.old image.new result ask }
         ensures size { self.new.size ≡ self.old.size }
         ensures image { length image.new ≡ length image.old }
-        ensures reach { D.reach self.new.device ≡ D.reach self.old.device }
         ensures reads { D.reads self.new.device ≡ count_after (is_read ask) (D.reads self.old.device) }
         ensures writes { D.writes self.new.device ≡ count_after (is_write ask) (D.writes self.old.device) }
-        ensures later { D.faults self.old.device ≤ D.faults self.new.device }
-        ensures read_fault { result ≡ answers.ReadFault → Rose (D.faults self.old.device) (D.faults self.new.device) }
-        ensures write_fault { result ≡ answers.WriteFault → Rose (D.faults self.old.device) (D.faults self.new.device) }
+        ensures device { IsFaithful D.reach D.faults (BlamesDevice result) self.old.device self.new.device }
     {
         match ask {
             Ask::Enter { buffers, name } => {

@@ -5,7 +5,7 @@ ghost use Rattle.fbc_region_tests.specs.Gone.{HaveGone};
 ghost use Rattle.fbc_world.specs.declared.asks.Ask.TheVariants as ask;
 
 use fbc_kinds::{Name, Shape};
-use fbc_levels::{Level, Resource, Series};
+use fbc_levels::{Resource, Series};
 use fbc_outside::{Fail as Failing, MemoryDevice};
 use fbc_region::{Chronicle, Region};
 use fbc_world::{Answer, Ask};
@@ -18,6 +18,9 @@ const REACH: u64 = 262_144;
 
 /// The bytes of a page.
 pub(crate) const PAGE: usize = 1024;
+
+/// The number of the file's last page.
+pub(crate) const LAST: usize = 3;
 
 /// Bytes that stand in a file from a place on; all others are zeros.
 type Spot = (usize, &'static [u8]);
@@ -105,7 +108,7 @@ impl Fixture {
     /// The answer to a step that the owner may take.
     pub(crate) fn step(&mut self, rt: &impl Abort, who: u32, ask: Ask) -> Result<Answer, Fail> {
         self.region.reserve(1)?;
-        let may = self.region.may_perform(self.alloc, who, &ask)?;
+        let may = self.region.may_perform(who, &ask);
         assert!(*rt; may);
         Ok(
             self.region
@@ -115,7 +118,7 @@ impl Fixture {
 
     /// The owner dies, which is alive.
     pub(crate) fn die(&mut self, rt: &impl Abort, who: u32) {
-        assert!(*rt; self.region.journal().alive(who));
+        assert!(*rt; self.region.alive(who));
         self.region.die(who);
     }
 
@@ -130,16 +133,6 @@ pub(crate) fn enter(name: u8) -> Ask
     ensures { result ≡ ask.Enter 4 name }
 {
     Ask::Enter { buffers: 4, name }
-}
-
-/// It asks for the level on the resource, and waits for it.
-pub(crate) fn lock(resource: Resource, level: Level) -> Ask {
-    Ask::Lock {
-        resource,
-        level,
-        wait: true,
-        word: 0,
-    }
 }
 
 pub(crate) fn page(key: u32) -> Resource {

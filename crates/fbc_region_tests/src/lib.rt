@@ -15,3 +15,5 @@ mod lock_tests;
 mod owner_tests;
 #[cfg(test)]
 mod page_tests;
+#[cfg(test)]
+mod plays;

@@ -10,20 +10,16 @@ use std::test::Fail;
 
 #[test]
 fn a_ninth_owner_comes_in_the_place_of_a_dead_one(rt: HostRuntime) -> Result<(), Fail> {
-    let alloc = rt.alloc();
-    let mut fixture = Fixture::new(alloc, 16, &[])?;
+    let mut fixture = Fixture::new(rt.alloc(), 16, &[])?;
     for who in 1..9 {
         assert_eq!(rt; fixture.step(&rt, who, enter(who as u8))?, Answer::Noted);
     }
     for name in 1..9 {
-        assert!(rt; !fixture.region.may_perform(alloc, 9, &enter(name))?);
+        assert!(rt; !fixture.region.may_perform(9, &enter(name)));
     }
     fixture.die(&rt, 5);
     for name in 0..10 {
-        assert_eq!(rt;
-            fixture.region.may_perform(alloc, 9, &enter(name))?,
-            name == 5
-        );
+        assert_eq!(rt; fixture.region.may_perform(9, &enter(name)), name == 5);
     }
     assert_eq!(rt; fixture.step(&rt, 9, enter(5))?, Answer::Noted);
     Ok(())
@@ -46,14 +42,13 @@ fn come_and_die(fixture: &mut Fixture, owners: u32) -> Result<(), AllocError>
 
 #[test]
 fn no_owner_comes_behind_the_last_number(rt: HostRuntime) -> Result<(), Fail> {
-    let alloc = rt.alloc();
-    let mut fixture = Fixture::new(alloc, 16, &[])?;
+    let mut fixture = Fixture::new(rt.alloc(), 16, &[])?;
     for owners in 0..65_535 {
         come_and_die(&mut fixture, owners)?;
     }
-    assert!(rt; fixture.region.may_perform(alloc, 65_536, &enter(1))?);
+    assert!(rt; fixture.region.may_perform(65_536, &enter(1)));
     come_and_die(&mut fixture, 65_535)?;
     assert_eq!(rt; fixture.region.owners(), 65_536);
-    assert!(rt; !fixture.region.may_perform(alloc, 65_537, &enter(1))?);
+    assert!(rt; !fixture.region.may_perform(65_537, &enter(1)));
     Ok(())
 }

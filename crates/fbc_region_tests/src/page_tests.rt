@@ -1,13 +1,21 @@
 //! Reads and writes that fail, and what stands after them.
 
-use crate::fixtures::{Fixture, PAGE, enter, file};
+use crate::fixtures::{Fixture, LAST, PAGE, file};
+use crate::plays::{Row, Sight, Step, Told, follow};
 use fbc_outside::{CallKind, Fail as Failing};
-use fbc_world::{Act, Answer, Ask, Cause};
-use std::process::Abort;
+use fbc_world::{Act, Cause, Journal};
+use std::alloc::AllocError;
 use std::test::Fail;
 
-/// The number of the file's last page.
-const LAST: usize = 3;
+/// The first read fails, and the second one does not.
+const READ_TWICE: &[Row] = &[
+    Row::Step(1, Step::Enter(1), Told::Noted),
+    Row::Step(1, Step::Read(3), Told::ReadFault),
+    Row::Stands(Sight::Alive(1)),
+    Row::Step(1, Step::Read(3), Told::PageIs(1024)),
+    Row::Stands(Sight::Alive(1)),
+    Row::Stands(Sight::LastPage),
+];
 
 #[test]
 fn a_failed_read_may_be_made_again(rt: HostRuntime) -> Result<(), Fail> {
@@ -17,42 +25,14 @@ fn a_failed_read_may_be_made_again(rt: HostRuntime) -> Result<(), Fail> {
         landed: false,
     };
     let mut fixture = Fixture::new(rt.alloc(), 16, &[failing])?;
-    assert_eq!(rt; fixture.step(&rt, 1, enter(1))?, Answer::Noted);
-    for answer in [Answer::ReadFault, Answer::PageIs { length: 1024 }] {
-        assert_eq!(rt; fixture.step(&rt, 1, Ask::Read { page: 3 })?, answer);
-        assert!(rt; fixture.region.journal().alive(1));
-    }
-    let fresh = file(rt.alloc())?;
-    assert_eq!(rt; fixture.image.as_slice(), &fresh[LAST * PAGE..]);
-    Ok(())
+    follow(&rt, &mut fixture, READ_TWICE)
 }
 
-/// Owner 1 dies of a write of page 3, which is the last event of the journal.
-fn failed_write(rt: &impl Abort, fixture: &mut Fixture) -> Result<(), Fail> {
-    let cause = Cause::Commit;
-    for (ask, answer) in [
-        (enter(1), Answer::Noted),
-        (Ask::Write { page: 3, cause }, Answer::WriteFault),
-    ] {
-        assert_eq!(*rt; fixture.step(rt, 1, ask)?, answer);
-    }
-    let journal = fixture.region.journal();
-    assert!(*rt; !journal.alive(1));
-    assert_eq!(*rt; journal.length(), 3);
-    let last = journal.event(2);
-    assert_eq!(*rt; last.actor, 1);
-    assert!(*rt;
-        matches!(
-            &last.act,
-            Act::Write {
-                page: 3,
-                cause: Cause::Commit,
-                failed: true
-            }
-        )
-    );
-    Ok(())
-}
+/// Owner 1 writes page 3, and the write fails.
+const WRITE: &[Row] = &[
+    Row::Step(1, Step::Enter(1), Told::Noted),
+    Row::Step(1, Step::Write(3), Told::WriteFault),
+];
 
 #[test]
 fn a_failed_write_leaves_the_old_page_or_the_new_one(rt: HostRuntime) -> Result<(), Fail> {
@@ -64,7 +44,9 @@ fn a_failed_write_leaves_the_old_page_or_the_new_one(rt: HostRuntime) -> Result<
         };
         let mut fixture = Fixture::new(rt.alloc(), 16, &[failing])?;
         fixture.fill(7);
-        failed_write(&rt, &mut fixture)?;
+        follow(&rt, &mut fixture, WRITE)?;
+        assert!(rt; !fixture.region.alive(1));
+        assert!(rt; ends_in_failed_write(fixture.region.journal())?);
         let mut wanted = file(rt.alloc())?;
         if landed {
             wanted[LAST * PAGE..].fill(7);
@@ -78,4 +60,23 @@ fn a_failed_write_leaves_the_old_page_or_the_new_one(rt: HostRuntime) -> Result<
         assert_eq!(rt; device.bytes(), wanted.as_slice());
     }
     Ok(())
+}
+
+/// Whether the third and last event is a write of page 3 by owner 1 for a commit, which failed.
+fn ends_in_failed_write(journal: &Journal) -> Result<bool, AllocError> {
+    if journal.length() != 3 {
+        return Ok(false);
+    }
+    let event = journal.event(2)?;
+    Ok(
+        event.actor == 1
+            && matches!(
+                &event.act,
+                Act::Write {
+                    page: 3,
+                    cause: Cause::Commit,
+                    failed: true
+                }
+            ),
+    )
 }

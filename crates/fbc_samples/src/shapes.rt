@@ -4,7 +4,7 @@ ghost use Rattle.std.specs.Prelude.{◌≡◌, IfSome};
 ghost use Rattle.fbc_kinds.specs.HeaderSpelling.{IsFileShape};
 
 use crate::files::FRESH;
-use crate::parts::page_of;
+use crate::parts::{Part, page_of};
 use fbc_kinds::Shape;
 use fbc_pages::recognise;
 
@@ -14,7 +14,23 @@ pub fn shape() -> Option<Shape>
     ensures shape { IfSome result IsFileShape }
     ensures size { IfSome result (λ shape. shape.size ≡ 1024) }
 {
-    match recognise(&page_of(FRESH, 0, &[]), 4096, 102_400) {
+    shape_with(&[])
+}
+
+/// The same of values of at most 200 bytes.
+pub fn wide_shape() -> Option<Shape>
+    ensures shape { IfSome result IsFileShape }
+    ensures size { IfSome result (λ shape. shape.size ≡ 1024) }
+{
+    shape_with(&[(64, &[200])])
+}
+
+/// The shape that the fresh file's header shows after changes.
+fn shape_with(changes: &[Part]) -> Option<Shape>
+    ensures shape { IfSome result IsFileShape }
+    ensures size { IfSome result (λ shape. shape.size ≡ 1024) }
+{
+    match recognise(&page_of(FRESH, 0, changes), 4096, 102_400) {
         Ok(shape) if shape.size == 1024 => Some(shape),
         _ => None,
     }

@@ -1,17 +1,16 @@
 //! Codecs of pages: the first rule that the bytes of a page break, or what they show.
 
-ghost use Rattle.std.specs.Prelude.{◌≡◌, ◌≤◌, length as list_length, IfOk};
+ghost use Rattle.std.specs.Prelude.{◌≡◌, ◌≤◌, length as list_length};
 ghost use Rattle.fbc_kinds.specs.Limits.{IsPageSize};
 
-use crate::faults::Fault;
 use crate::pages::described;
-use crate::values::{lay_changes, page_size, words_of};
+use crate::values::page_size;
 use fbc_cells::{decode_data, decode_pointer, encode_data, encode_pointer};
 use fbc_kinds::{Page, PageFault};
 use fbc_pages::{
     decode_header, decode_inventory, decode_tip, encode_header, encode_inventory, encode_tip,
 };
-use fbc_samples::{FRESH, ONE_ROW, lay, page_of};
+use fbc_samples::{FRESH, Fault, ONE_ROW, lay, lay_changes, page_of, words_of};
 use std::alloc::Global;
 
 /// The codecs, each for one kind of page.

@@ -3,13 +3,13 @@
 ghost use Rattle.std.specs.Prelude.{◌≡◌, IfOk};
 ghost use Rattle.fbc_kinds.specs.Edits.{IsShape, IsWithinLimits};
 
-use crate::faults::Fault;
 use crate::pages::described;
-use crate::values::{value_of, words_of};
+use crate::values::value_of;
 use fbc_apply::apply;
 use fbc_kinds::{
     ApplyFault, Cell, Edit, Flag, Header, Inventory, Listed, Name, Page, Relation, Shape, State,
 };
+use fbc_samples::{Fault, words_of};
 use std::alloc::{AllocError, Global};
 
 /// Answers one line over the page that the lines before it have left. `page` begins with another
@@ -87,7 +87,7 @@ fn long_header(alloc: Global, shape: &Shape) -> Result<Page, AllocError>
 }
 
 /// The edit that words say: its name and its numbers in the order of its fields.
-fn edit_of(words: &[&str]) -> Result<Edit, Fault> {
+pub fn edit_of(words: &[&str]) -> Result<Edit, Fault> {
     match *words {
         ["set_next", next] => Ok(Edit::SetNext {
             next: next.parse()?,

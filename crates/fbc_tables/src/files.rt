@@ -4,13 +4,12 @@
 ghost use Rattle.fbc_kinds.specs.Limits.{IsPageSize};
 ghost use Rattle.fbc_files.specs.NewPages.{AreNewRelations};
 
-use crate::faults::Fault;
-use crate::values::{lay_changes, page_size, push_bytes, words_of};
+use crate::values::page_size;
 use fbc_files::{CreateFault, NewRelation, are_new_relations, create_file};
 use fbc_kinds::{Name, Rule, Shape};
 use fbc_outside::MemoryDevice;
 use fbc_pages::recognise;
-use fbc_samples::{FRESH, page_of};
+use fbc_samples::{FRESH, Fault, lay_changes, page_of, push_bytes, words_of};
 use std::alloc::Global;
 
 /// How far the device of a new file reaches, in bytes.

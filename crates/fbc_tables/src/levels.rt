@@ -1,8 +1,7 @@
 //! Lock levels: which go beside each other, which lies above two, and their numbers.
 
-use crate::faults::Fault;
-use crate::values::words_of;
 use fbc_levels::{Level, compatible, highest_beside, join, number, of_number};
+use fbc_samples::{Fault, words_of};
 use std::alloc::Global;
 
 const LEVELS: [Level; 7] = [

@@ -1,10 +1,10 @@
 //! Small machines: one line has the commands that a machine without rows is given, one after the
 //! other, between semicolons, and is answered with the replies.
 
-use crate::faults::Fault;
-use crate::values::{push_bytes, value_of, words_of};
+use crate::values::value_of;
 use fbc_kinds::{Command, Reply};
 use fbc_machine::{Machine, may_come, step};
+use fbc_samples::{Fault, push_bytes, words_of};
 use std::alloc::Global;
 
 /// Answers one line.

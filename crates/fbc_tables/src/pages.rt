@@ -1,9 +1,8 @@
 //! What stands in a page, as text. Of like items one behind the other the places of the first and of
 //! the last are told, and then what they are.
 
-use crate::faults::Fault;
-use crate::values::push_bytes;
 use fbc_kinds::{Cell, Flag, Header, Page, State};
+use fbc_samples::{Fault, push_bytes};
 use std::alloc::Global;
 
 /// What stands in a page.

@@ -4,10 +4,8 @@ ghost use Rattle.std.specs.Prelude.{◌≡◌};
 ghost use Rattle.fbc_kinds.specs.HeaderSpelling.{IsFileShape};
 
 use crate::codecs::told;
-use crate::faults::Fault;
-use crate::values::{lay_changes, words_of};
 use fbc_kinds::Shape;
-use fbc_samples::{ONE_ROW, page_of};
+use fbc_samples::{Fault, ONE_ROW, lay_changes, page_of, words_of};
 use fbc_spelling::{page_shown, spell_page};
 use std::alloc::Global;
 

@@ -4,9 +4,9 @@ ghost use Rattle.std.specs.Prelude.{◌≡◌};
 ghost use Rattle.fbc_kinds.specs.Edits.{IsWithinLimits};
 ghost use Rattle.fbc_kinds.specs.HeaderSpelling.{IsFileShape};
 
-use crate::faults::Fault;
-use crate::{checks, codecs, commands, edits, files, levels, machines, scripts, spellings};
+use crate::{built, checks, codecs, edits, files, levels, machines, spellings};
 use fbc_kinds::{Page, Shape};
+use fbc_samples::{Fault, is_row, push_answer};
 use std::alloc::{AllocError, Global};
 
 /// What the lines of a section say.
@@ -22,8 +22,7 @@ enum Section {
     Files,
     NewFiles,
     Validate,
-    Commands,
-    Script,
+    BuiltPages,
 }
 
 impl Section {
@@ -38,8 +37,7 @@ impl Section {
             "files" => Section::Files,
             "new files" => Section::NewFiles,
             "validate" => Section::Validate,
-            "commands" => Section::Commands,
-            "script" => Section::Script,
+            "built pages" => Section::BuiltPages,
             _ => Section::Head,
         }
     }
@@ -47,9 +45,17 @@ impl Section {
 
 /// The lines of the tables, each row with its answer. An empty line, a comment, which begins with
 /// `#`, and a heading, which begins with `==`, have none.
-pub fn answered(alloc: Global, shape: &Shape, text: &str) -> Result<String, AllocError>
+/// The built pages are those of a file with the shape `wide`, and all others with the shape `shape`.
+pub fn answered(
+    alloc: Global,
+    shape: &Shape,
+    wide: &Shape,
+    text: &str,
+) -> Result<String, AllocError>
     requires shape { IsFileShape shape.now }
     requires size { shape.now.size ≡ 1024 }
+    requires wide { IsFileShape wide.now }
+    requires wide_size { wide.now.size ≡ 1024 }
 {
     let mut out = String::new(alloc);
     let mut section = Section::Head;
@@ -58,8 +64,11 @@ pub fn answered(alloc: Global, shape: &Shape, text: &str) -> Result<String, Allo
         out.push_str(line)?;
         if let Some(name) = line.strip_prefix("== ") {
             section = Section::named(name);
-        } else if !line.is_empty() && !line.starts_with('#') {
-            let answer = answer(alloc, section, shape, &mut page, line);
+        } else if is_row(line) {
+            let answer = match section {
+                Section::BuiltPages => built::answer(alloc, wide, line),
+                _ => answer(alloc, section, shape, &mut page, line),
+            };
             push_answer(answer, &mut out)?;
         }
         out.push('\n')?;
@@ -81,7 +90,7 @@ fn answer(
     ensures { IsWithinLimits shape.now page.new }
 {
     match section {
-        Section::Head => Err(Fault::Unreadable),
+        Section::Head | Section::BuiltPages => Err(Fault::Unreadable),
         Section::Levels => levels::answer(alloc, line),
         Section::Edits => edits::answer(alloc, shape, page, line),
         Section::Machine => machines::answer(alloc, line),
@@ -90,17 +99,5 @@ fn answer(
         Section::Files => files::recognised(alloc, line),
         Section::NewFiles => files::created(alloc, line),
         Section::Validate => checks::answer(alloc, line),
-        Section::Commands => commands::answer(alloc, line),
-        Section::Script => scripts::answer(alloc, line),
-    }
-}
-
-/// Adds an answer behind its line.
-fn push_answer(answer: Result<String, Fault>, out: &mut String) -> Result<(), AllocError> {
-    out.push_str(" => ")?;
-    match answer {
-        Ok(answer) => out.push_str(&answer),
-        Err(Fault::Unreadable) => out.push_str("unreadable"),
-        Err(Fault::Memory) => Err(AllocError),
     }
 }

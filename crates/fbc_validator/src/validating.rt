@@ -7,7 +7,8 @@ ghost use Rattle.fbc_kinds.specs.Limits.{IsPageSize};
 ghost use Rattle.fbc_kinds.specs.View.{View, header_of};
 ghost use Rattle.fbc_kinds.specs.declared.rules.Rule.{Rule};
 ghost use Rattle.fbc_kinds.specs.declared.shapes.Shape.{Shape};
-ghost use Rattle.fbc_outside.specs.Faults.{Rose, bump};
+ghost use Rattle.fbc_outside.specs.Faults.{bump};
+ghost use Rattle.fbc_outside.specs.Frames.{IsFaithful, IsUnwritten};
 ghost use Rattle.fbc_validator.specs.Checked.{AreFindings, HasFound, WhyNotChecked};
 ghost use Rattle.fbc_reach.specs.Content.{IsReadOf};
 ghost use Rattle.fbc_reach.specs.Tally.{IsTallyOf};
@@ -38,13 +39,11 @@ pub fn validate<D: Device>(alloc: Global, device: &mut D) -> Result<Findings, Va
     requires reach { D.reach device.old ≤ 2 ^ 40 }
     ensures found { IfOk result (HasFound (D.reach device.old) (D.bytes device.old)) }
     ensures refused { IfErr result (λ fault. WhyNotChecked fault (D.bytes device.old)) }
-    ensures bytes { D.bytes device.new ≡ D.bytes device.old }
-    ensures refused_read { (rule : Rule) → result ≡ Err (ValidateFault.NotOurs rule) → D.reads device.new ≡ bump (D.reads device.old) }
-    ensures writes { D.writes device.new ≡ D.writes device.old }
-    ensures landings { D.landings device.new ≡ D.landings device.old }
-    ensures reach { D.reach device.new ≡ D.reach device.old }
-    ensures later { D.faults device.old ≤ D.faults device.new }
-    ensures fault { result ≡ Err ValidateFault.DeviceFault → Rose (D.faults device.old) (D.faults device.new) }
+    ensures refused_read { (rule : Rule)
+        → result ≡ Err (ValidateFault.NotOurs rule)
+        → D.reads device.new ≡ bump (D.reads device.old) }
+    ensures unwritten { IsUnwritten D.bytes D.writes D.landings device.old device.new }
+    ensures device { IsFaithful D.reach D.faults (result ≡ Err ValidateFault.DeviceFault) device.old device.new }
 {
     recognised_header();
     bytes_give_one_view();
@@ -79,12 +78,8 @@ fn check_file<D: Device>(
         → IsViewOf shape.now bytes view
         → AreFindings shape.now bytes view found) }
     ensures pages { IfOk result (λ found. found.pages ≡ pages) }
-    ensures bytes { D.bytes device.new ≡ D.bytes device.old }
-    ensures writes { D.writes device.new ≡ D.writes device.old }
-    ensures landings { D.landings device.new ≡ D.landings device.old }
-    ensures reach { D.reach device.new ≡ D.reach device.old }
-    ensures later { D.faults device.old ≤ D.faults device.new }
-    ensures fault { result ≡ Err ValidateFault.DeviceFault → Rose (D.faults device.old) (D.faults device.new) }
+    ensures unwritten { IsUnwritten D.bytes D.writes D.landings device.old device.new }
+    ensures device { IsFaithful D.reach D.faults (result ≡ Err ValidateFault.DeviceFault) device.old device.new }
     ensures only { IfErr result (λ fault. (fault ≡ ValidateFault.DeviceFault) ⊎ (fault ≡ ValidateFault.Memory)) }
 {
     let bytes = read_bytes(alloc, device, shape.size, 0)?;
@@ -117,12 +112,8 @@ fn check_pages<D: Device>(
         → header_of view ≡ Some header.now
         → AreFindings shape.now bytes view found) }
     ensures pages { IfOk result (λ found. found.pages ≡ pages) }
-    ensures bytes { D.bytes device.new ≡ D.bytes device.old }
-    ensures writes { D.writes device.new ≡ D.writes device.old }
-    ensures landings { D.landings device.new ≡ D.landings device.old }
-    ensures reach { D.reach device.new ≡ D.reach device.old }
-    ensures later { D.faults device.old ≤ D.faults device.new }
-    ensures fault { result ≡ Err ValidateFault.DeviceFault → Rose (D.faults device.old) (D.faults device.new) }
+    ensures unwritten { IsUnwritten D.bytes D.writes D.landings device.old device.new }
+    ensures device { IsFaithful D.reach D.faults (result ≡ Err ValidateFault.DeviceFault) device.old device.new }
     ensures only { IfErr result (λ fault. (fault ≡ ValidateFault.DeviceFault) ⊎ (fault ≡ ValidateFault.Memory)) }
 {
     let visited = walk(alloc, device, shape, header, first)?;

@@ -4,7 +4,7 @@ use Rattle.std.specs.List.{All, AllPairs, filter, find}
 use Rattle.std.proofs.lemmas.List.Kept.{AllPairs-filter}
 use Rattle.std.proofs.lemmas.List.Quantifiers.{all_pairs_push}
 use Rattle.fbc_levels.specs.declared.levels.Level.{Level}
-use Rattle.fbc_levels.specs.declared.levels.Level.TheVariants.{Free, Null, Sr, Pr, Sw, Pw, Ex}
+use Rattle.fbc_levels.specs.declared.levels.Level.TheVariants.{Free}
 use Rattle.fbc_levels.specs.declared.resources.Request.{Request}
 use Rattle.fbc_levels.specs.declared.resources.Resource.{Resource}
 use Rattle.fbc_levels.specs.LockState.{LockState, AreApart, is_of}

@@ -1,5 +1,5 @@
 -- One owner's request for one resource, after each change of the list of requests.
-use Rattle.std.proofs.Common.{◌≡◌, ◌∙◌, ap, ℕ, Bool, true, false, not, ◌==◌, ◌&&◌, cond, if◌then◌else◌, List, [], ◌∷◌, ◌++◌, map, Option, Some, None, is_some, refl, sym, arith}
+use Rattle.std.proofs.Common.{◌≡◌, ◌∙◌, ap, ℕ, Bool, true, false, not, ◌==◌, ◌&&◌, if◌then◌else◌, List, [], ◌∷◌, ◌++◌, map, Option, Some, None, is_some, refl, sym, arith}
 use Rattle.std.specs.List.{AllPairs, filter, find}
 use Rattle.std.specs.Option.{option_and_then, option_map, option_map_or, option_or}
 use Rattle.std.proofs.lemmas.Bool.Decides.{nat_tests}
@@ -10,7 +10,7 @@ use Rattle.fbc_levels.specs.declared.resources.Request.{Request}
 use Rattle.fbc_levels.specs.declared.resources.Resource.{Resource}
 use Rattle.fbc_levels.specs.LockState.{is_of}
 use Rattle.fbc_levels.specs.Resources.{is_same_resource}
-use Rattle.fbc_lock_table.specs.Effects.{entered, is_bare_wait_of, new_request, without_wait}
+use Rattle.fbc_lock_table.specs.Effects.{entered, is_bare_wait_of, new_request}
 use Rattle.fbc_lock_table.proofs.Pairs.{NotBoth}
 use Rattle.fbc_world.proofs.Found.{find_filter-all, find_filter-none, find_filter-once, find_map, find_passes}
 

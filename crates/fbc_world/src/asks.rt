@@ -4,7 +4,7 @@ use fbc_kinds::Reply;
 use fbc_levels::{Level, Resource};
 
 /// One step of an owner.
-#[derive(Debug, Drop)]
+#[derive(Clone, Debug, Drop)]
 pub enum Ask {
     /// It comes, with room for that many pages, as the attachment with that number of a name.
     Enter {

@@ -1,8 +1,11 @@
 //! What happens in a history.
 
+ghost use Rattle.std.specs.Prelude.{◌≡◌};
+
 use crate::asks::{Ask, Cause};
 use fbc_kinds::{Edit, Reply};
 use fbc_levels::{Level, Resource};
+use std::alloc::AllocError;
 
 /// What an owner does in its own cache, between two steps.
 #[derive(Clone, Copy, Debug, PartialEq, Eq)]
@@ -16,7 +19,7 @@ pub enum LocalEvent {
 }
 
 /// What one event is, besides its actor. Where it was asked for, it has the fields of the ask.
-#[derive(Debug, Drop)]
+#[derive(Clone, Debug, Drop)]
 pub enum Act {
     /// The file is opened, with room for that many lock requests.
     Opened {
@@ -73,9 +76,21 @@ pub enum Act {
     Local(LocalEvent),
 }
 
-/// One event of a history. The actor of `Opened` is 0.
+/// One event of a history. The actor of `Opened` is 0. A clone is the same event, or an error.
 #[derive(Debug, Drop)]
 pub struct Event {
     pub actor: u32,
     pub act: Act,
+}
+
+impl Clone for Event {
+    ghost is_clone = { λ event copy. copy ≡ event };
+
+    fn clone(&self) -> Result<Event, AllocError> {
+        let act = self.act.clone()?;
+        Ok(Event {
+            actor: self.actor,
+            act,
+        })
+    }
 }

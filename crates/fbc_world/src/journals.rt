@@ -1,6 +1,6 @@
 //! The journal: the events of a file in the order in which they happened.
 
-ghost use Rattle.std.specs.Prelude.{◌≡◌, ◌^◌, ◌<◌, ◌≤◌, ◌+◌, ◌++◌, ◌∷◌, [], Some, IfOk, OnOk, OnErr, length, slice_get};
+ghost use Rattle.std.specs.Prelude.{◌≡◌, ◌^◌, ◌<◌, ◌≤◌, ◌+◌, ◌++◌, ◌∷◌, [], Some, IfOk, OnOk, length, slice_get};
 ghost use Rattle.fbc_kinds.specs.Edits.{IsShape};
 ghost use Rattle.fbc_world.specs.History.{recorded};
 ghost use Rattle.fbc_world.specs.PageCell.{blank_file, kept, newest};
@@ -106,11 +106,11 @@ impl Journal {
     }
 
     /// The event at that place, counted from 0.
-    pub fn event(&self, k: u64) -> &Event
+    pub fn event(&self, k: u64) -> Result<Event, AllocError>
         requires { k < length self.now.events }
-        ensures { slice_get self.now.events k ≡ Some result.now }
+        ensures { IfOk result (λ event. slice_get self.now.events k ≡ Some event) }
     {
-        &self.events[k as usize]
+        self.events[k as usize].clone()
     }
 
     /// What the file keeps of the page, replayed over a file of blank pages. An edit that does not fit

@@ -3,7 +3,8 @@
 //!
 //! - **Proved** of `Journal`, which is its file's shape and the list of its events, the oldest first:
 //!   - `reserve` makes room, and without memory the events stay; `push` adds one event and takes no memory;
-//!     `length`, below 2^63, and `event` give each.
+//!     `length`, below 2^63, says how many there are, and `event` gives each of them by value, as a clone
+//!     that is the same event, or an error.
 //!   - `kept` and `newest` answer what the file keeps of a page and its newest content, over a file of blank
 //!     pages; `granted` and `alive` take no memory.
 //! - **Proved** of every history over every file, legal or not:
@@ -16,6 +17,8 @@
 //!   - The record of all that stands (`specs/World`) is in each part what that part's own definition says
 //!     (`worlds_are_replays`), and a granted level is that of its request (`requests_grant_levels`).
 //!   - The commands of one history are worked out as an example (`commands_of_the_example`).
+//! - **Argued**: a clone of an event takes no memory, and fails only where a list of rows has as many copies as it
+//!   may have.
 //! - **Supposed**: of a journal a page size that a file may have and at most eight relations (`IsShape`); of
 //!   `push` that there is room. For a journal an edit that does not fit changes nothing, and a failed write
 //!   has not landed.

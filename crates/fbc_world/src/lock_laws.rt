@@ -10,7 +10,8 @@ ghost use Rattle.fbc_world.specs.Owners.{granted};
 
 /// What the list of requests says that an owner is granted is the level that it is granted.
 pub fn requests_grant_levels()
-    ensures { (history : History) (owner : ℕ) (resource : Resource) → granted_of (locks_of history) owner resource ≡ granted history owner resource }
+    ensures { (history : History) (owner : ℕ) (resource : Resource)
+        → granted_of (locks_of history) owner resource ≡ granted history owner resource }
 {}
 
 /// An owner has one request for a resource at most.

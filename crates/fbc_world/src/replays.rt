@@ -71,8 +71,10 @@ impl Replay {
         requires shape { IsShape shape.now }
         requires within { IsWithin shape.now self.old }
         ensures within { OnOk result (IsWithin shape.now self.new) }
-        ensures kept { OnOk result (Some self.new.kept ≡ kept_step page (Some self.old.kept) self.old.draft event.now.actor event.now.act false) }
-        ensures draft { OnOk result (self.new.draft ≡ draft_step shape.now page (Some self.old.kept) self.old.draft event.now.actor event.now.act) }
+        ensures kept { OnOk result (Some self.new.kept
+            ≡ kept_step page (Some self.old.kept) self.old.draft event.now.actor event.now.act false) }
+        ensures draft { OnOk result (self.new.draft
+            ≡ draft_step shape.now page (Some self.old.kept) self.old.draft event.now.actor event.now.act) }
     {
         match &event.act {
             Act::Local(LocalEvent::Edit { page: number, edit }) => {

@@ -7,4 +7,4 @@ use Rattle.fbc_machine.proofs.steps.scan.Goals as goal
 pub returns : goal.returns
 returns c =
     let open_is : open_transaction (shown c.args.machine.now) c.args.who ≡ Some c.transaction.result.now = sym c.in-Some.ensures.transaction ∙ c.transaction.ensures in
-    rw (open_is, c.in_ok-new.ensures.ok, c.new.ensures, ← c.items.ensures) c.in_ok-rows.ensures
+    rw (open_is, c.in_ok-new.ensures, ← c.items.ensures) c.in_ok-rows.ensures

@@ -28,7 +28,7 @@ returns-clause-walked g c bytes view told shown is =
     (c.deref.ensures.value ∙ c.in_ok-named.ensures)
     (c.deref-3.ensures.value ∙ c.in_ok-found.ensures ∙ ap (named_by_tally c.note_all.new.self) (c.deref-2.ensures.value ∙ sym c.deref.ensures.value))
     (c.in_ok-note_all.ensures.noted (naming 0 role.Header ∷ []) start)
-    c.note_all-2.new.self (g.D.Device.bytes c.note_all.new.device) c.note_all.ensures.bytes
+    c.note_all-2.new.self (g.D.Device.bytes c.note_all.new.device) c.note_all.ensures.unwritten.bytes
     c.in_ok-note_all-2.ensures.noted
 
 pub returns-clause-found : goal.returns-clause-found

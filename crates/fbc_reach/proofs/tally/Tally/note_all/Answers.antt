@@ -13,11 +13,11 @@ loop-naming-preserved g c =
           note_step c.args.shape.now (g.D.Device.bytes c.args.device.now) (g.D.Device.bytes c.loop-naming.device) done c.args.namings.now c.loop-naming.naming-index
           _ c.loop-naming.self c.note.new.self before.bytes (omega arith) (before.noted done tally) c.in_ok-note.ensures.noted;
       next = c.note.ensures.next ∙ before.next;
-      bytes = c.note.ensures.bytes ∙ before.bytes;
-      writes = c.note.ensures.writes ∙ before.writes;
-      landings = c.note.ensures.landings ∙ before.landings;
-      reach = c.note.ensures.reach ∙ before.reach;
-      later = omega (arith, c.note.ensures.later, before.later);
+      bytes = c.note.ensures.unwritten.bytes ∙ before.bytes;
+      writes = c.note.ensures.unwritten.writes ∙ before.writes;
+      landings = c.note.ensures.unwritten.landings ∙ before.landings;
+      reach = c.note.ensures.device.reach ∙ before.reach;
+      later = omega (arith, c.note.ensures.device.later, before.later);
     }
 
 pub returns-clause-noted : goal.returns-clause-noted

@@ -8,16 +8,16 @@ use Rattle.fbc_region.proofs.ledgers.Ledger.fail.Goals as goal
 
 pub push-requires-clause-room : goal.push-requires-clause-room
 push-requires-clause-room c =
-    place_die c.self.inside.chronicle c.args.owner c.self.inside.table c.self.inside.owners c.self.invariant
+    place_die c.self.inside.chronicle c.args.owner c.self.inside.table c.self.invariant
     (subst (λ j. is_alive (recorded j) c.args.owner ≡ true) (sym c.self.view_is) c.requires.alive)
 
 pub invariant_of-self : goal.invariant_of-self
 invariant_of-self c =
-    rw (c.die.ensures.after) (kept_die c.self.inside.chronicle c.push.new.self c.args.owner c.self.inside.table c.self.inside.owners c.self.invariant (Write c.args.page c.args.cause true) (failed c.args.page c.args.cause)
+    rw (c.die.ensures.after) (kept_die c.self.inside.chronicle c.push.new.self c.args.owner c.self.inside.table c.self.invariant (Write c.args.page c.args.cause true) (failed c.args.page c.args.cause)
     (subst (λ j. is_alive (recorded j) c.args.owner ≡ true) (sym c.self.view_is) c.requires.alive) c.push.ensures.events c.push.ensures.spare)
 
 pub returns-clause-room : goal.returns-clause-room
 returns-clause-room c =
     subst (λ j. (n : ℕ) → HasRoom j n → HasRoom c.push.new.self n) c.self.view_is
-    (room_die c.self.inside.chronicle c.push.new.self c.args.owner c.self.inside.table c.self.inside.owners c.self.invariant (Write c.args.page c.args.cause true) (failed c.args.page c.args.cause)
+    (room_die c.self.inside.chronicle c.push.new.self c.args.owner c.self.inside.table c.self.invariant (Write c.args.page c.args.cause true) (failed c.args.page c.args.cause)
     (subst (λ j. is_alive (recorded j) c.args.owner ≡ true) (sym c.self.view_is) c.requires.alive) c.push.ensures.events c.push.ensures.spare)

@@ -1,8 +1,10 @@
-use Rattle.std.proofs.Common.{◌∙◌}
+use Rattle.std.proofs.Common.{◌↔◌, IsTrue, subst}
+use Rattle.fbc_legal.specs.Guards.{GuardOfEnter}
+use Rattle.fbc_region.specs.Stepping.{recorded_scene}
 use Rattle.fbc_region.proofs.Admitting.{admits}
 use Rattle.fbc_region.proofs.ledgers.Ledger.may_enter.Goals as goal
 
 pub returns : goal.returns
 returns c =
-    admits c.journal-journal.result.now c.args.self.now c.args.who c.args.name c.deref.result.now c.may_come.result (c.journal-journal.ensures.journal ∙ c.self.view_is)
-    (c.deref.ensures.value ∙ c.in_ok-living.ensures) c.may_come.ensures
+    subst (λ j. IsTrue c.may_come.result ↔ GuardOfEnter (recorded_scene j) c.args.who c.args.name) c.self.view_is
+    (admits c.self.inside.chronicle c.args.who c.args.name c.may_come.result c.may_come.ensures)

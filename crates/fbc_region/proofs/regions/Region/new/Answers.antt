@@ -7,4 +7,4 @@ use Rattle.fbc_world.specs.declared.events.Act.TheVariants as act
 pub returns-in-Ok-clause-legal : goal.returns-in-Ok-clause-legal
 returns-in-Ok-clause-legal g c =
     let adds : Adds c.args.journal c.in-Ok.ledger (by 0 (act.Opened c.args.locks) ∷ []) = search rules in
-    λ bytes file landings lawful. lawful_opened c.args.size bytes c.args.journal c.in-Ok.ledger file landings c.is_at_rest.ensures lawful c.args.locks c.requires adds
+    λ bytes file landings lawful. lawful_opened c.args.size bytes c.args.journal c.in-Ok.ledger file landings c.is_at_rest.ensures.rests lawful c.args.locks c.requires adds

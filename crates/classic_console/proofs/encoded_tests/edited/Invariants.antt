@@ -1,6 +1,0 @@
-use Rattle.fbc_kinds.specs.Edits.{IsWithinLimits}
-use Rattle.classic_console.proofs.encoded_tests.edited.Given as goal
-
--- The page so far is within its limits.
-abbrev pub invariant-loop-edit : goal.invariant-loop-edit
-invariant-loop-edit l = IsWithinLimits l.shape l.page

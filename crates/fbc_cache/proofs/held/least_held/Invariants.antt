@@ -1,0 +1,8 @@
+-- The least page of the buffers so far.
+use Rattle.std.proofs.Common.{◌≡◌, is_none, take}
+use Rattle.fbc_buffers.specs.declared.buffers.Buffer.{Buffer}
+use Rattle.fbc_cache.proofs.Least.{least_of}
+use Rattle.fbc_cache.proofs.held.least_held.Given as goal
+
+abbrev pub invariant-loop-buffer : goal.invariant-loop-buffer
+invariant-loop-buffer l = l.least ≡ least_of (λ (b : Buffer). is_none b.wanted) l.above (take l.buffer-index l.held)

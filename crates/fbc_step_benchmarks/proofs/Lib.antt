@@ -1,0 +1,4 @@
+mod Requests
+mod Stepped
+mod Ready
+mod IdleAsks
