@@ -3,11 +3,14 @@ use Rattle.std.proofs.Common.{◌≡◌, ℕ, zero, suc, ◌+◌, ◌≤◌, min
 use Rattle.std.specs.List.{find, fold, list_any, AllByRecursion}
 use Rattle.std.specs.Option.{option_map, option_map_or}
 use Rattle.std.proofs.lemmas.Bool.Decides.{nat_tests}
+use Rattle.std.proofs.lemmas.Bool.{and_from}
+use Rattle.std.proofs.Math.Bool.{or-true}
 use Rattle.fbc_levels.specs.declared.resources.Series.TheVariants.{Page}
 use Rattle.fbc_levels.specs.declared.resources.Resource.{Resource}
 use Rattle.fbc_levels.specs.declared.resources.Request.{Request}
 use Rattle.fbc_levels.specs.Resources.{is_same_series, is_same_resource}
 use Rattle.fbc_levels.specs.LockState.{LockState, granted_of}
+use Rattle.fbc_lock_table.proofs.Ways.{same_resource}
 use Rattle.fbc_blocking.specs.Callbacks.{page_of, is_of_other, is_against, is_kept_out, IsPast, is_past, is_called, with_called, IsNextPage, KeepsNobodyOut}
 
 -- One more request.
@@ -58,10 +61,6 @@ module _ (s : LockState) (owner : ℕ) (above : Option ℕ) where
   self_page : (page : ℕ) → page == page ≡ true
   self_page page = grind (arith, nat_tests)
 
-  or_true : (b : Bool) → b || true ≡ true
-  or_true true = refl
-  or_true false = refl
-
   -- The request is called for: the page so far is replaced if its own is less.
   taken : (before : Option ℕ) (r : Request) (rs : List Request) (least : ℕ) (after : Option ℕ) → is_called s owner above r ≡ true → (before ≡ Some least) ⊎ (r.resource.key ≡ least) → least ≤ r.resource.key → IfSome before (λ other. least ≤ other) → Folds (Some least) rs after → Folds before (r ∷ rs) after
   taken before r rs least None is from own other folds = absurd (let none : Some least ≡ None = folds.0 in cc)
@@ -76,7 +75,7 @@ module _ (s : LockState) (owner : ℕ) (above : Option ℕ) where
 
     source : (Some least ≡ Some page) ⊎ (list_any (at_page page) rs ≡ true) → (before ≡ Some page) ⊎ (list_any (at_page page) (r ∷ rs) ≡ true)
     source (inl so) = here (let same : least ≡ page = cc in same) from
-    source (inr any) = inr (rw any (or_true (at_page page r)))
+    source (inr any) = inr (rw any (or-true (at_page page r)))
 
     kept : (o : Option ℕ) → IfSome o (λ n. least ≤ n) → IfSome o (λ n. page ≤ n)
     kept None bound = tt
@@ -103,12 +102,6 @@ module _ (s : LockState) (owner : ℕ) (above : Option ℕ) where
   right true c is = is
   right false c is = absurd (cc)
 
-  both : (b c : Bool) → b ≡ true → c ≡ true → (b && c) ≡ true
-  both b c is also = rw (is, also) refl
-
-  same_resource : (a b : Resource) → is_same_resource a b ≡ true → a ≡ b
-  same_resource a b is = grind (arith, nat_tests)
-
   comes_past : (o : Option ℕ) (page : ℕ) → IsPast o page → is_past o page ≡ true
   comes_past None page past = refl
   comes_past (Some n) page past = grind (arith, nat_tests)
@@ -127,13 +120,13 @@ module _ (s : LockState) (owner : ℕ) (above : Option ℕ) where
       let Past : Resource → Type 0 = λ a. is_past above a.key ≡ true in
       let Out : Resource → Type 0 = λ a. is_kept_out owner a.key (granted_of s owner a) r ≡ true in
       let At : Resource → Type 0 = λ a. a.key == page ≡ true in
-      both _ _ (both _ _ (both _ _ (subst Series' same refl) (subst Past same (comes_past above page past))) (subst Out same out)) (subst At same (self_page page))
+      and_from _ _ (and_from _ _ (and_from _ _ (subst Series' same refl) (subst Past same (comes_past above page past))) (subst Out same out)) (subst At same (self_page page))
 
   -- And the other way round.
   called_page : (page : ℕ) (r : Request) → at_page page r ≡ true → r.resource ≡ page_of page
   called_page page r is =
       let series = left (is_same_series r.resource.series Page) (is_past above r.resource.key) (left _ (is_kept_out owner r.resource.key (granted_of s owner r.resource) r) (left (is_called s owner above r) (r.resource.key == page) is)) in
-      same_resource r.resource (page_of page) (both _ _ series (right (is_called s owner above r) (r.resource.key == page) is))
+      same_resource r.resource (page_of page) (and_from _ _ series (right (is_called s owner above r) (r.resource.key == page) is))
 
   called_is_kept_out : (page : ℕ) (r : Request) → at_page page r ≡ true → is_kept_out owner page (granted_of s owner (page_of page)) r ≡ true
   called_is_kept_out page r is =

@@ -1,8 +1,9 @@
 -- Where no request waits, the owner keeps nobody out.
-use Rattle.std.proofs.Common.{◌≡◌, ℕ, ◌+◌, Bool, true, false, ◌&&◌, cond, List, [], ◌∷◌, Option, Some, None, is_some, refl, sym, ◌∙◌, ap, arith}
+use Rattle.std.proofs.Common.{◌≡◌, ℕ, ◌+◌, Bool, true, false, cond, List, [], ◌∷◌, Option, Some, None, is_some, refl, sym, ◌∙◌, ap, arith}
 use Rattle.std.specs.List.{find}
 use Rattle.std.specs.Option.{option_map}
 use Rattle.std.proofs.lemmas.List.Sums.{sum_by-cons}
+use Rattle.std.proofs.lemmas.Bool.{and_right}
 use Rattle.fbc_levels.specs.declared.levels.Level.{Level}
 use Rattle.fbc_levels.specs.declared.resources.Request.{Request}
 use Rattle.fbc_levels.specs.LockState.{LockState, granted_of}
@@ -11,14 +12,10 @@ use Rattle.fbc_blocking.specs.Callbacks.{is_against, is_kept_out, is_of_other, p
 
 -- What does not wait is not kept out.
 not_kept : (owner page : ℕ) (held : Level) (r : Request) → is_waiting r ≡ false → is_kept_out owner page held r ≡ false
-not_kept owner page held r idle = both (is_of_other owner page r) _ (none r.waiting idle) where
+not_kept owner page held r idle = and_right (is_of_other owner page r) _ (none r.waiting idle) where
   none : (waiting : Option Level) → is_some waiting ≡ false → is_against held (record r { waiting = waiting }) ≡ false
   none None is = refl
   none (Some level) is = absurd (cc)
-
-  both : (b c : Bool) → c ≡ false → (b && c) ≡ false
-  both true c is = is
-  both false c is = refl
 
 -- What a request adds to the number of those that wait.
 abbrev one : Request → ℕ

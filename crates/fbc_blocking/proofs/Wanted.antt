@@ -2,6 +2,7 @@
 use Rattle.std.proofs.Common.{◌≡◌, ℕ, zero, suc, ◌+◌, Bool, true, false, ◌&&◌, List, [], ◌∷◌, take, Option, Some, None, slice_get, add-one, refl, sym, ◌∙◌}
 use Rattle.std.specs.List.{list_all, filter_map, cons_option}
 use Rattle.std.specs.Option.{option_map_or}
+use Rattle.std.proofs.lemmas.Bool.{and_right, and_from, and_parts}
 
 module _ {X Y : Type 0} (p : Y → Bool) (h : X → Option Y) where
   -- The first of more requests.
@@ -9,32 +10,17 @@ module _ {X Y : Type 0} (p : Y → Bool) (h : X → Option Y) where
   first None ys = refl
   first (Some y) ys = refl
 
-  both : (b c : Bool) → b ≡ true → c ≡ true → (b && c) ≡ true
-  both b c is also = rw (is, also) refl
-
-  left : (b c : Bool) → (b && c) ≡ true → b ≡ true
-  left true c is = refl
-  left false c is = absurd (cc)
-
-  right : (b c : Bool) → (b && c) ≡ true → c ≡ true
-  right true c is = is
-  right false c is = absurd (cc)
-
   all_next : (xs : List X) (k : ℕ) (x : X) → list_all p (filter_map h (take k xs)) ≡ true → slice_get xs k ≡ Some x → option_map_or p (h x) true ≡ true → list_all p (filter_map h (take (suc k) xs)) ≡ true
   all_next [] k x all at passes = absurd (cc)
   all_next (y ∷ xs) zero x all at passes =
       let same : y ≡ x = cc in
-      rw same (first (h x) [] ∙ both _ _ passes refl)
+      rw same (first (h x) [] ∙ and_from _ _ passes refl)
   all_next (y ∷ xs) (suc k) x all at passes =
       let parts = sym (first (h y) (filter_map h (take k xs))) ∙ all in
-      first (h y) (filter_map h (take (suc k) xs)) ∙ both _ _ (left _ _ parts) (all_next xs k x (right _ _ parts) at passes)
+      first (h y) (filter_map h (take (suc k) xs)) ∙ and_from _ _ (and_parts _ _ parts).0 (all_next xs k x (and_parts _ _ parts).1 at passes)
 
   pub all_more : (xs : List X) (k : ℕ) (x : X) → list_all p (filter_map h (take k xs)) ≡ true → slice_get xs k ≡ Some x → option_map_or p (h x) true ≡ true → list_all p (filter_map h (take (k + 1) xs)) ≡ true
   all_more xs k x all at passes = rw add-one (all_next xs k x all at passes)
-
-  one_fails : (b c : Bool) → c ≡ false → (b && c) ≡ false
-  one_fails true c is = is
-  one_fails false c is = refl
 
   pub all_not : (xs : List X) (k : ℕ) (x : X) → slice_get xs k ≡ Some x → option_map_or p (h x) true ≡ false → list_all p (filter_map h xs) ≡ false
   all_not [] k x at fails = absurd (cc)
@@ -42,4 +28,4 @@ module _ {X Y : Type 0} (p : Y → Bool) (h : X → Option Y) where
       let same : y ≡ x = cc in
       rw same (first (h x) (filter_map h xs) ∙ rw fails refl)
   all_not (y ∷ xs) (suc k) x at fails =
-      first (h y) (filter_map h xs) ∙ one_fails _ _ (all_not xs k x at fails)
+      first (h y) (filter_map h xs) ∙ and_right _ _ (all_not xs k x at fails)

@@ -1,5 +1,5 @@
 -- The cache after an edit, and which page is written next.
-use Rattle.std.specs.Prelude.{◌≡◌, ◌⊎◌, ◌≤◌, ◌==◌, ◌&&◌, ℕ, Bool, true, false, not, List, [], ◌∷◌, ◌++◌, Option, Some, None, is_some, map}
+use Rattle.std.specs.Prelude.{◌≡◌, ◌⊎◌, ◌≤◌, ◌==◌, ◌&&◌, ◌||◌, ℕ, Bool, true, false, not, List, [], ◌∷◌, ◌++◌, Option, Some, None, is_some, map}
 use Rattle.fbc_kinds.specs.declared.edges.Edge.{Edge}
 use Rattle.fbc_kinds.specs.declared.edits.Edit.{Edit}
 use Rattle.fbc_kinds.specs.declared.pages.Page.{Page}
@@ -82,6 +82,10 @@ pub record IsFree (pairs : List Edge) (b : Buffer) : Type 0 where
 -- No page is dirty.
 abbrev pub AllClean : CacheState → Type 0
 AllClean c = (page : ℕ) → is_dirty_in c.held page ≡ false
+
+-- Whether a buffer is clean, or is this page's.
+abbrev pub is_clean_beside : ℕ → Buffer → Bool
+is_clean_beside page b = (b.page == page) || not b.is_dirty
 
 -- The least page that is written next; none where no page is dirty.
 abbrev pub IsLeastDirty : CacheState → Option ℕ → Type 0

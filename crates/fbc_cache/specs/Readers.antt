@@ -1,5 +1,6 @@
 -- What pages say.
-use Rattle.std.specs.Prelude.{ℕ, ◌%◌, Bool, List, Option, Some, [], slice_get, unwrap_or}
+use Rattle.std.specs.Prelude.{ℕ, ◌%◌, Bool, false, List, Option, Some, [], slice_get, unwrap_or}
+use Rattle.std.specs.List.{list_all}
 use Rattle.std.specs.Option.{option_map_or}
 use Rattle.fbc_kinds.specs.declared.pages.Cell.{Cell}
 use Rattle.fbc_kinds.specs.declared.pages.Header.{Header}
@@ -9,7 +10,7 @@ use Rattle.fbc_kinds.specs.declared.pages.State.{State}
 use Rattle.fbc_kinds.specs.declared.pages.State.TheVariants as state
 use Rattle.fbc_kinds.specs.DataSpelling.{empty_cell}
 use Rattle.fbc_kinds.specs.Limits.{inventory_bits, tip_numbers}
-use Rattle.fbc_kinds.specs.View.{cell_in, header_in, is_marked, mark_in, slot_in, state_in}
+use Rattle.fbc_kinds.specs.View.{cell_in, header_in, is_empty, is_marked, mark_in, slot_in, state_in}
 use Rattle.fbc_cache.specs.declared.readers.Place.{Place}
 use Rattle.fbc_cache.specs.Cache.{CacheState, copy_in}
 
@@ -46,9 +47,19 @@ is_taken_in c page target = is_marked (mark_in (copy_in c.held page) (target % i
 abbrev pub state_shown : CacheState → ℕ → ℕ → State
 state_shown c page number = unwrap_or (state_in (copy_in c.held page) (number % tip_numbers c.shape.size)) state.Active
 
+-- All states that a transaction inventory page shows, in the order of their numbers.
+abbrev pub states_in : Option Page → List State
+states_in (Some (kind.Tip t)) = t.states
+states_in _ = []
+
 -- What a slot of a pointer page names, and what stands in a cell of a data page.
 abbrev pub slot_shown : CacheState → ℕ → ℕ → ℕ
 slot_shown c page slot = unwrap_or (slot_in (copy_in c.held page) slot) 0
 
 abbrev pub cell_shown : CacheState → ℕ → ℕ → Cell
 cell_shown c page cell = unwrap_or (cell_in (copy_in c.held page) cell) empty_cell
+
+-- Whether what may be used is a data page, and no cell of it holds a version.
+abbrev pub is_vacant_in : Option Page → Bool
+is_vacant_in (Some (kind.Data d)) = list_all (λ (c : Cell). is_empty c.flag) d.cells
+is_vacant_in _ = false

@@ -71,6 +71,10 @@ WantsBy c need None want = WantsBuffer c need (length c.held == c.room) want
 abbrev pub Wants : CacheState → Need → Want → Type 0
 Wants c need want = WantsBy c need (buffer_of c.held need.page) want
 
+-- Whether the page of this buffer may be used.
+abbrev pub is_usable : Need → Buffer → Bool
+is_usable need b = is_none b.wanted && suffices b.level need.level && (is_some b.copy || need.fresh)
+
 -- The page may be used: it is held in a level that does, and is valid or to be formatted.
 pub record IsHere (c : CacheState) (need : Need) : Type 0 where
   pub buffer : Buffer

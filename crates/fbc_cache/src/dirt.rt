@@ -1,19 +1,19 @@
 //! What is held of a page, and which dirty page is written next.
 
 ghost use Rattle.std.specs.Prelude.{◌≡◌, ◌↔◌, IsTrue, Some};
-ghost use Rattle.std.specs.List.{find};
+ghost use Rattle.std.specs.List.{find, list_all};
 ghost use Rattle.std.specs.Option.{option_copied};
 ghost use Rattle.fbc_buffers.specs.declared.buffers.Buffer.{Buffer as ABuffer};
 ghost use Rattle.fbc_buffers.specs.Holding.{AreApart};
 ghost use Rattle.fbc_cache.specs.Cache.{is_dirty_in, is_granted_in};
-ghost use Rattle.fbc_cache.specs.Edits.{IsFree, IsLeastDirty, IsNextDirty};
+ghost use Rattle.fbc_cache.specs.Edits.{IsFree, IsLeastDirty, IsNextDirty, is_clean_beside};
 
 use crate::cache::Cache;
 use fbc_buffers::Buffer;
 
 impl Cache {
     /// Whether the page is held, as far as it was learnt.
-    pub(crate) fn is_granted(&self, page: u32) -> bool
+    pub fn is_granted(&self, page: u32) -> bool
         ensures { result ≡ is_granted_in self.now.held page }
     {
         match self.buffers.buffer(page) {
@@ -30,6 +30,16 @@ impl Cache {
             Some(buffer) => buffer.is_dirty,
             None => false,
         }
+    }
+
+    /// Whether no other page is dirty.
+    pub fn is_alone_dirty(&self, page: u32) -> bool
+        ensures { result ≡ list_all (is_clean_beside page) self.now.held }
+    {
+        self.buffers
+            .held()
+            .iter()
+            .all(|buffer| buffer.page == page || !buffer.is_dirty)
     }
 
     /// The least dirty page before which no dirty page is to be written; none where none is dirty.

@@ -1,7 +1,7 @@
 //! How a page is given up, or held in a lower level.
 
 ghost use Rattle.std.specs.Prelude.{◌≡◌, ◌↔◌, IsTrue, true};
-ghost use Rattle.fbc_precedence.specs.Precedence.{IsNextToWrite};
+ghost use Rattle.fbc_precedence.specs.Precedence.{ComesBefore, IsNextToWrite};
 ghost use Rattle.fbc_cache.specs.Giving.{GivesUp, IsUnsettled};
 ghost use Rattle.fbc_cache.specs.Wants.{MayGiveUp, is_due};
 
@@ -42,5 +42,12 @@ impl Cache {
         ensures { IsNextToWrite self.now.pairs page result }
     {
         self.graph.next_to_write(page)
+    }
+
+    /// Whether the first page is to be written before the second, by pairs that lead from the one to the other.
+    pub fn leads(&self, high: u32, low: u32) -> bool
+        ensures { IsTrue result ↔ ComesBefore self.now.pairs high low }
+    {
+        self.graph.leads(high, low)
     }
 }

@@ -2,11 +2,13 @@
 
 ghost use Rattle.std.specs.Prelude.{◌≡◌};
 ghost use Rattle.fbc_buffers.specs.Holding.{AreApart};
-ghost use Rattle.fbc_cache.specs.Least.{IsLeast, is_held_past, is_past, is_pinned_past};
+ghost use Rattle.std.specs.List.{list_all};
+ghost use Rattle.fbc_cache.specs.Least.{IsLeast, is_below_if_pinned, is_data_below, is_held_past, is_past, is_pinned_past};
 ghost use Rattle.fbc_cache.specs.Use.{after_touch};
 
 use crate::cache::Cache;
 use fbc_buffers::Buffer;
+use fbc_kinds::Page;
 use fbc_precedence::lesser;
 
 impl Cache {
@@ -31,6 +33,16 @@ impl Cache {
     {
         self.holds();
         least_held(self.buffers.held(), above)
+    }
+
+    /// Whether data pages with smaller numbers alone are in use, or none.
+    pub fn pins_are_below(&self, page: u32) -> bool
+        ensures { result ≡ list_all (is_below_if_pinned page) self.now.held }
+    {
+        self.buffers
+            .held()
+            .iter()
+            .all(|buffer| !buffer.is_pinned || is_data_below(buffer, page))
     }
 }
 
@@ -70,4 +82,11 @@ fn is_past(above: Option<u32>, page: u32) -> bool
         Some(above) => above < page,
         None => true,
     }
+}
+
+/// Whether the buffer has a data page with a smaller number.
+fn is_data_below(buffer: &Buffer, page: u32) -> bool
+    ensures { result ≡ is_data_below page buffer.now }
+{
+    matches!(buffer.copy, Some(Page::Data(_))) && buffer.page < page
 }

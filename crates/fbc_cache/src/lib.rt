@@ -27,7 +27,8 @@
 //!   - `victim` answers, of the pages that are not in use, the one whose last use is longest ago, `dirty` the next page in the order of writes
 //!     (`specs/Edits`), and `next_pinned`, `next_held` and `first_empty` the least page in use, the least page
 //!     held and the least empty cell, none exactly where there is none (`specs/Least`).
-//!   - No call hands out a page or a cell: a reader tells one field.
+//!   - No call hands out a page or a cell: a reader tells one field, and `states` lends the states of one transaction
+//!     inventory page.
 //!   - `spell` writes bytes that spell the copy, over all that stood in the buffer (`spelled`). `shape` and
 //!     `pairs` hand out the shape and the pairs of the order.
 //! - **Supposed**: the shape is one that a recognised file has; a page that is edited is pinned and in EX and

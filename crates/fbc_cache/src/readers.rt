@@ -6,7 +6,7 @@ ghost use Rattle.std.specs.Option.{option_copied};
 ghost use Rattle.fbc_kinds.specs.View.{header_in};
 ghost use Rattle.fbc_kinds.specs.declared.pages.Header.{Header as AHeader};
 ghost use Rattle.fbc_cache.specs.Cache.{copy_in};
-ghost use Rattle.fbc_cache.specs.Readers.{header_number, is_taken_in, number_at, place_in, slot_shown, state_shown, tips_in};
+ghost use Rattle.fbc_cache.specs.Readers.{header_number, is_taken_in, number_at, place_in, slot_shown, state_shown, states_in, tips_in};
 ghost use Rattle.fbc_cache.specs.Remembered.{pointers_of};
 
 use crate::cache::Cache;
@@ -93,7 +93,7 @@ impl Cache {
     }
 
     /// The transaction inventory pages that the header names, by their sequence.
-    fn tips(&self) -> &[u32]
+    pub fn tips(&self) -> &[u32]
         ensures tips { result.now ≡ tips_in self.now }
         ensures few { length result.now ≤ 16 }
     {
@@ -105,7 +105,8 @@ impl Cache {
 
     /// How many transaction inventory pages the header names.
     pub fn tip_count(&self) -> u16
-        ensures { result ≡ length (tips_in self.now) }
+        ensures count { result ≡ length (tips_in self.now) }
+        ensures few { result ≤ 16 }
     {
         self.tips().len() as u16
     }
@@ -160,6 +161,16 @@ impl Cache {
                 }
             }
             _ => State::Active,
+        }
+    }
+
+    /// All states that the transaction inventory page shows, in the order of their numbers; none where it is no such page.
+    pub fn states(&self, page: u32) -> &[State]
+        ensures { result.now ≡ states_in (copy_in self.now.held page) }
+    {
+        match self.page(page) {
+            Some(Page::Tip(tip)) => tip.states.items(),
+            _ => &[],
         }
     }
 

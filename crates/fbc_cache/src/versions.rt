@@ -2,16 +2,16 @@
 //! answers what it answers of an empty one.
 
 ghost use Rattle.std.specs.Prelude.{◌≡◌, ◌≤◌, ◌<◌, ◌++◌, IfSome, drop, length};
-ghost use Rattle.std.specs.List.{position_from};
+ghost use Rattle.std.specs.List.{list_all, position_from};
 ghost use Rattle.std.specs.Option.{option_copied};
 ghost use Rattle.fbc_kinds.specs.declared.pages.Cell.{Cell as ACell};
 ghost use Rattle.fbc_kinds.specs.View.{cell_in, is_empty};
 ghost use Rattle.fbc_cache.specs.Cache.{copy_in};
 ghost use Rattle.fbc_cache.specs.Least.{IsLeast, is_empty_in};
-ghost use Rattle.fbc_cache.specs.Readers.{cell_shown};
+ghost use Rattle.fbc_cache.specs.Readers.{cell_shown, is_vacant_in};
 
 use crate::cache::Cache;
-use fbc_kinds::{Cell, Flag, Page};
+use fbc_kinds::{Cell, Flag, Page, Value};
 
 impl Cache {
     /// What stands in the cell: nothing, the newest version of a row, or an older one.
@@ -71,6 +71,16 @@ impl Cache {
         out[..value.len()].copy_from_slice(value);
     }
 
+    /// The value of the version in the cell, as one of its own.
+    pub fn value_of(&self, page: u32, k: u16) -> Value
+        ensures { result ≡ (cell_shown self.now page k).value }
+    {
+        match self.version(page, k) {
+            Some(cell) => cell.value,
+            None => Value::new(&[]),
+        }
+    }
+
     /// The value of the version in the cell.
     fn value(&self, page: u32, k: u16) -> &[u8]
         ensures { result.now ≡ (cell_shown self.now page k).value }
@@ -88,6 +98,16 @@ impl Cache {
         match self.page(page) {
             Some(Page::Data(data)) => data.cells.items().get(k as usize),
             _ => None,
+        }
+    }
+
+    /// Whether the cache has the data page, and no cell of it holds a version.
+    pub fn is_vacant(&self, page: u32) -> bool
+        ensures { result ≡ is_vacant_in (copy_in self.now.held page) }
+    {
+        match self.page(page) {
+            Some(Page::Data(data)) => are_empty(data.cells.items()),
+            _ => false,
         }
     }
 
@@ -116,4 +136,11 @@ fn first_empty(cells: &[Cell]) -> Option<usize>
     cells
         .iter()
         .position(|cell| matches!(cell.flag, Flag::Empty))
+}
+
+/// Whether all cells are empty.
+fn are_empty(cells: &[Cell]) -> bool
+    ensures { result ≡ list_all (λ (c : ACell). is_empty c.flag) cells.now }
+{
+    cells.iter().all(|cell| matches!(cell.flag, Flag::Empty))
 }

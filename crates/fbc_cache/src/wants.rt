@@ -6,7 +6,7 @@ ghost use Rattle.std.specs.Option.{option_copied, option_map_or};
 ghost use Rattle.fbc_buffers.specs.declared.buffers.Buffer.{Buffer as ABuffer};
 ghost use Rattle.fbc_buffers.specs.Holding.{buffer_of, is_pinned, is_waiting};
 ghost use Rattle.fbc_cache.specs.declared.needs.Want.TheVariants as wants;
-ghost use Rattle.fbc_cache.specs.Wants.{IsDueWant, IsHere, MayWant, Wants, WantsBuffer, is_pinned_below, lock_for, suffices, want_held};
+ghost use Rattle.fbc_cache.specs.Wants.{IsDueWant, IsHere, MayWant, Wants, WantsBuffer, is_pinned_below, is_usable, lock_for, suffices, want_held};
 
 use crate::cache::Cache;
 use crate::due::is_page_level;
@@ -33,6 +33,16 @@ impl Cache {
         // No page has two buffers, and no other page is waited for: so the one that gives way is held.
         let _held = self.buffers.held();
         Ok(self.step_for(&need))
+    }
+
+    /// Whether the page may be used: it is held in a level that does, and is valid or to be formatted.
+    pub fn is_here(&self, need: &Need) -> bool
+        ensures { IsTrue result ↔ IsHere self.now need.now }
+    {
+        match self.buffers.buffer(need.page) {
+            Some(buffer) => is_usable(need, buffer),
+            None => false,
+        }
     }
 
     /// What a need comes to.
@@ -142,6 +152,15 @@ fn want_held(need: &Need, buffer: &Buffer) -> Want
         return Want::Here;
     }
     Want::Must(Ask::Read { page: need.page })
+}
+
+/// Whether the page of this buffer may be used.
+fn is_usable(need: &Need, buffer: &Buffer) -> bool
+    ensures { result ≡ is_usable need.now buffer.now }
+{
+    buffer.wanted.is_none()
+        && suffices(buffer.level, need.level)
+        && (buffer.copy.is_some() || need.fresh)
 }
 
 /// Whether a page that is held in the first level may be used in the second.

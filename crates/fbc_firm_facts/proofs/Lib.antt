@@ -30,4 +30,5 @@ pub mod CellsForReader
 pub mod PathsKept
 pub mod StandsFirm
 pub mod StandsStay
+pub mod NoPages
 pub mod StandsHold

@@ -1,5 +1,5 @@
 -- Where an open transaction may note that it stands, it does, and what it may note of a row from there it sees.
-use Rattle.std.proofs.Common.{is_some, ◌≡◌, ◌∙◌, ◌==◌, ◌⊎◌, inl, inr, ℕ, Bool, true, false, List, Option, Some, None, refl, sym, ap, subst}
+use Rattle.std.proofs.Common.{is_some, ◌≡◌, ◌∙◌, ◌/◌, ◌%◌, ◌==◌, ◌⊎◌, inl, inr, ℕ, Bool, true, false, List, Option, Some, None, refl, sym, ap, subst}
 use Rattle.std.specs.List.{All, Contains}
 use Rattle.std.specs.Option.{IfSome}
 use Rattle.std.proofs.lemmas.List.Elements.{All-contains}
@@ -7,10 +7,14 @@ use Rattle.fbc_kinds.specs.declared.pages.Cell.{Cell}
 use Rattle.fbc_kinds.specs.declared.pages.Page.{Page}
 use Rattle.fbc_kinds.specs.declared.shapes.Shape.{Shape}
 use Rattle.fbc_kinds.specs.declared.snapshots.Transaction.{Transaction}
+use Rattle.fbc_kinds.specs.Chain.{Version, see}
+use Rattle.fbc_kinds.specs.Limits.{slots}
 use Rattle.fbc_kinds.specs.Machine.{is_held}
 use Rattle.fbc_kinds.specs.Reach.{DataRole, shows_role, Reaches}
-use Rattle.fbc_kinds.specs.View.{View, cell_at, cell_in, is_top}
+use Rattle.fbc_kinds.specs.View.{View, cell_at, cell_in, data_of, is_top, named_in, pointer_of, size_of}
 use Rattle.fbc_kinds.proofs.Tests.{test_of_same}
+use Rattle.fbc_page_edits.specs.Edited.{IsOfShape}
+use Rattle.fbc_page_edits.proofs.HeaderStands.{size_is}
 use Rattle.fbc_world.specs.History.{History}
 use Rattle.fbc_world.specs.World.{World, world_of}
 use Rattle.fbc_legal.specs.Scene.{scene_of}
@@ -23,14 +27,18 @@ use Rattle.fbc_simulation.specs.Beside.{machine_of}
 use Rattle.fbc_simulation.specs.Simulated.{IsSimulated}
 use Rattle.fbc_notes.specs.declared.notes.Note.{Note}
 use Rattle.fbc_notes.specs.declared.notes.Note.TheVariants as note
-use Rattle.fbc_notes.specs.Sights.{MaySeeBelow, MaySeeNone, MayStand, TellsBelow}
+use Rattle.fbc_notes.specs.Sights.{MaySeeBelow, MaySeeNoPage, MaySeeNone, MayStand, TellsBelow}
 use Rattle.fbc_firm_facts.specs.Grounds.{IsGround, IsGroundIn, IsLoneUnheld}
 use Rattle.fbc_firm_facts.specs.NotesHold.{NoteHolds}
 use Rattle.fbc_firm_facts.specs.Standing.{IsLinkedBelow, LeadsUnheld, StandsFirmly, place_of, sequence_of}
 use Rattle.fbc_firm_facts.proofs.StandsFirm.{led-stands-there, none-there, shows-held, shows-none}
 use Rattle.fbc_firm_facts.proofs.OwnCellsSeen.{all-own}
 use Rattle.fbc_firm_facts.proofs.SeeDown.{see-alone}
+use Rattle.fbc_firm_facts.proofs.NamesStay.{found}
+use Rattle.fbc_firm_facts.proofs.NoPages.{no-chain, no-page, no-pointer}
+use Rattle.fbc_firm_facts.proofs.OwnViewsSee.{own-view-shows}
 use Rattle.fbc_origins.proofs.PutPages.{every_draft}
+use Rattle.fbc_origins.proofs.RowsWritten.{pointer_by}
 
 module _ (shape : Shape) (file : View) (history : History) (whole : IsWhole (scene_of shape file history)) (simulated : IsSimulated (scene_of shape file history))
     (owner : ℕ) (t : Transaction) (open_is : (world_of shape file history).transaction owner ≡ Some t) (notes : List Note) (all : All (NoteHolds shape file history owner) notes)
@@ -139,3 +147,27 @@ module _ (shape : Shape) (file : View) (history : History) (whole : IsWhole (sce
       let here : cell_at (view w every) page place ≡ Some version = seen-stands page place version stands every own-all in
       sym (led-stands-there (scene_of shape file history) whole simulated owner t open_is every own-all relation row page place version (LeadsUnheld.begins page place version refl reached here first) here).sees
       ∙ see-alone (view w every) (whole.order.upheld.sound every own-all.closed) held relation sequence place version unheld alone)
+
+  -- Nothing is seen of a row for which copies name no page.
+  abbrev all-seen : View
+  all-seen = view w every
+
+  of-shape : IsOfShape shape all-seen
+  of-shape = whole.order.upheld.of_shape every own-all.closed
+
+  size-same : size_of all-seen ≡ shape.size
+  size-same = size_is shape all-seen of-shape (whole.order.upheld.sound every own-all.closed)
+
+  no-data : MaySeeNoPage shape (w.copy owner) notes relation row → data_of all-seen relation sequence ≡ None
+  no-data (MaySeeNoPage.no_page pointer there has none) =
+      no-page shape all-seen of-shape size-same relation sequence pointer
+      (found (pointer_of all-seen relation (sequence / slots shape.size)) pointer
+      (All-contains (NoteHolds shape file history owner) notes (note.Pointer relation (sequence / slots shape.size) pointer) all there every own-all))
+      (ap (λ (o : Option Page). named_in o (sequence % slots shape.size)) (same-content pointer has) ∙ none)
+  no-data (MaySeeNoPage.no_pointer has none) =
+      no-pointer shape all-seen of-shape size-same relation sequence (ap (λ (o : Option Page). pointer_by o relation (sequence / slots shape.size)) (same-content 0 has) ∙ none)
+
+  pub no-page-holds : MaySeeNoPage shape (w.copy owner) notes relation row → NoteHolds shape file history owner (note.Sees relation row None)
+  no-page-holds may =
+      sym (own-view-shows (scene_of shape file history) whole simulated owner t open_is every own-all relation row)
+      ∙ ap (λ (versions : List Version). see versions held) (no-chain shape all-seen of-shape size-same relation row (no-data may))

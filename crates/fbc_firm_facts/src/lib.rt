@@ -21,7 +21,7 @@
 //!     (`notes_hold_where_copies_show_them`), and so does what it may note of a row by the row's own cell
 //!     (`sights_hold_where_copies_show_them`); so do stands (`stands_hold_where_copies_show_them`), what is
 //!     seen from them (`sights_hold_where_stands_tell_them`), and that nothing is seen
-//!     (`grounds_tell_where_nothing_is_seen`).
+//!     (`grounds_tell_where_nothing_is_seen`, `rows_without_pages_show_nothing`).
 //!   - **Notes hold on**: whatever others do, while the page on which a note rests is pinned
 //!     (`others_leave_supported_notes`); and through the owner's own events that are no edits, while it lives
 //!     and has an open transaction without a mark (`own_acts_leave_notes`). What a note says of the header or
@@ -67,8 +67,8 @@ pub use named::pinned_pages_stay_named;
 pub use notes::{
     grounds_tell_where_nothing_is_seen, notes_hold_where_copies_show_them,
     others_leave_supported_notes, own_acts_leave_notes, own_events_leave_lasting_notes,
-    sights_hold_where_copies_show_them, sights_hold_where_stands_tell_them,
-    stands_hold_where_copies_show_them,
+    rows_without_pages_show_nothing, sights_hold_where_copies_show_them,
+    sights_hold_where_stands_tell_them, stands_hold_where_copies_show_them,
 };
 pub use numbers::{commits_stay_firm, dead_numbers_stay_firm};
 pub use seen::{

@@ -10,7 +10,7 @@ ghost use Rattle.fbc_legal.specs.Legal.{IsLegal};
 ghost use Rattle.fbc_notes.specs.Notes.{is_lasting, may_note};
 ghost use Rattle.fbc_kinds.specs.Machine.{is_held};
 ghost use Rattle.fbc_kinds.specs.declared.snapshots.Transaction.{Transaction};
-ghost use Rattle.fbc_notes.specs.Sights.{MaySee, MaySeeBelow, MaySeeNone, MayStand};
+ghost use Rattle.fbc_notes.specs.Sights.{MaySee, MaySeeBelow, MaySeeNoPage, MaySeeNone, MayStand};
 ghost use Rattle.fbc_notes.specs.declared.notes.Note.{Note};
 ghost use Rattle.fbc_notes.specs.declared.notes.Note.TheVariants.{Sees, Stands};
 ghost use Rattle.fbc_page_edits.specs.Edited.{IsOfShape};
@@ -69,6 +69,19 @@ pub fn grounds_tell_where_nothing_is_seen()
         → (world_of shape file history).transaction owner ≡ Some t
         → All (NoteHolds shape file history owner) notes
         → MaySeeNone shape (is_held t.snapshot) ((world_of shape file history).copy owner) notes relation row
+        → NoteHolds shape file history owner (Sees relation row None) }
+{
+    legal_histories_are_whole();
+    legal_histories_are_simulated();
+}
+
+/// Where an open transaction may note by copies that no page is named for a row, it sees nothing of it.
+pub fn rows_without_pages_show_nothing()
+    ensures { (shape : Shape) (file : View) (history : History) (owner relation row : ℕ) (t : Transaction) (notes : List Note)
+        → IsOfShape shape file → IsSound file → IsLegal shape file history
+        → (world_of shape file history).transaction owner ≡ Some t
+        → All (NoteHolds shape file history owner) notes
+        → MaySeeNoPage shape ((world_of shape file history).copy owner) notes relation row
         → NoteHolds shape file history owner (Sees relation row None) }
 {
     legal_histories_are_whole();

@@ -43,6 +43,13 @@ impl<const WIDTH: usize> Padded<WIDTH> {
         }
     }
 
+    /// How many bytes the text has.
+    pub fn len(&self) -> u8
+        ensures { result ≡ length self.now }
+    {
+        self.length
+    }
+
     /// The bytes of the text.
     pub fn as_bytes(&self) -> &[u8]
         ensures { result.now ≡ self.now }

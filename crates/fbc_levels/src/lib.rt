@@ -6,6 +6,7 @@
 //!     level goes beside each that it gives as well (`lower_levels_go_beside`).
 //!   - The holder that `specs/LockState` finds is in the way, and nobody with a lesser number is; without one
 //!     nobody is (`holders_are_least`).
+//!   - A circle has at most eight owners (`Cycle::owners`).
 //! - **Supposed**: of a list of owners, that it has at most eight.
 //! - Defined here: a lawful list of requests (`specs/LockState`), who holds what another wants, and what a
 //!   circle of waits is (`specs/Waits`).

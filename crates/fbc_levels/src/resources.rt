@@ -93,7 +93,8 @@ impl Cycle {
 
     /// The owners, in the order of waiting.
     pub fn owners(&self) -> &[u32]
-        ensures { result.now ≡ self.now }
+        ensures same { result.now ≡ self.now }
+        ensures few { length result.now ≤ 8 }
     {
         &self.owners[..self.length as usize]
     }

@@ -19,10 +19,10 @@ use Rattle.fbc_lock_table.proofs.Pairs.{AllPairs-map, NotBoth, find-only, none-f
 use Rattle.fbc_lock_table.proofs.Ways.{compatible-sym, is_of-owner, is_of-resource, is_of-self, beside-granted, beside-lowered, once-queued, once-fewer, beside-wait_granted, apart-new, alive-new, own_way, own_wait}
 
 -- Nothing is asked of single requests.
-abbrev Any : Request → Type 0
+abbrev pub Any : Request → Type 0
 Any r = Unit {0}
 
-any : (rs : List Request) → All Any rs
+pub any : (rs : List Request) → All Any rs
 any rs k d within = tt
 
 -- The requests that pass may be fewer.

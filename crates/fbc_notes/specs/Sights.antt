@@ -5,9 +5,9 @@ use Rattle.fbc_kinds.specs.declared.pages.Cell.{Cell}
 use Rattle.fbc_kinds.specs.declared.shapes.Shape.{Shape}
 use Rattle.fbc_kinds.specs.Chain.{value_of}
 use Rattle.fbc_kinds.specs.Edits.{value_length}
-use Rattle.fbc_kinds.specs.Limits.{cells}
+use Rattle.fbc_kinds.specs.Limits.{cells, slots}
 use Rattle.fbc_kinds.specs.Reach.{DataRole, NamesBack, shows_role}
-use Rattle.fbc_kinds.specs.View.{View, cell_at, is_top}
+use Rattle.fbc_kinds.specs.View.{View, cell_at, is_top, named_in, pointer_of}
 use Rattle.fbc_notes.specs.declared.notes.Note.{Note}
 use Rattle.fbc_notes.specs.declared.notes.Note.TheVariants as note
 
@@ -64,6 +64,18 @@ pub data MaySeeNone (shape : Shape) (held : ℕ → Bool) (copies : View) (notes
       → held version.number ≡ false
       → (version.back_page == 0) ≡ true
       → MaySeeNone shape held copies notes relation row
+
+-- That nothing is seen of a row may be noted where no page is named for it: a note gives the pointer page of its sequence, and a
+-- copy of that names no page in the slot; or a copy of the header names no such pointer page.
+pub data MaySeeNoPage (shape : Shape) (copies : View) (notes : List Note) (relation row : ℕ) : Type 0 where
+  no_page : (pointer : ℕ)
+      → Contains notes (note.Pointer relation ((row / cells shape.size (value_length shape relation)) / slots shape.size) pointer)
+      → is_some (copies pointer) ≡ true
+      → named_in (copies pointer) ((row / cells shape.size (value_length shape relation)) % slots shape.size) ≡ None
+      → MaySeeNoPage shape copies notes relation row
+  no_pointer : is_some (copies 0) ≡ true
+      → pointer_of copies relation ((row / cells shape.size (value_length shape relation)) / slots shape.size) ≡ None
+      → MaySeeNoPage shape copies notes relation row
 
 -- By the version where one stands the value is seen, or nothing: the version is held, or it is not and leads no further.
 pub data TellsBelow (held : ℕ → Bool) (version : Cell) (value : Option (List ℕ)) : Type 0 where

@@ -7,6 +7,7 @@ use Rattle.std.proofs.lemmas.Grind.{common_steps, fold-append}
 use Rattle.std.proofs.lemmas.List.{take-append-drop}
 use Rattle.std.proofs.lemmas.List.Folds.{list_any-append}
 use Rattle.std.proofs.lemmas.List.Edits.{length-insert}
+use Rattle.std.proofs.lemmas.Bool.{and_parts}
 use Rattle.fbc_levels.specs.declared.resources.Request.{Request}
 use Rattle.fbc_levels.specs.LockState.{LockState, wait_of}
 use Rattle.fbc_levels.specs.Waits.{is_waited_for, is_wait_for, is_for_number, waits_for_number}
@@ -88,28 +89,20 @@ any_living wait (r ∷ rs) os x any = step (r.owner == x) refl (is_waited_for wa
   same : r.owner == x ≡ true → r.owner ≡ x
   same is = grind (arith, nat_tests)
 
-  alive : (b c : Bool) → (b && c) ≡ true → c ≡ true
-  alive true c is = is
-  alive false c is = absurd (cc)
-
   here : r.owner ≡ x → r.alive ≡ true → has (with_living os r) x ≡ true
   here is lives = rw (lives, ← is) (has-with_owner_self os r.owner)
 
   step : (b : Bool) → r.owner == x ≡ b → (c : Bool) → is_waited_for wait r ≡ c → (b && c) || list_any (λ t. (t.owner == x) && is_waited_for wait t) rs ≡ true → (list_any (λ t. (t.owner == x) && is_waited_for wait t) rs ≡ true → has (fold with_living (with_living os r) rs) x ≡ true) → has (fold with_living (with_living os r) rs) x ≡ true
-  step true is true for any' rest = has-fold rs (with_living os r) x (here (same is) (alive _ r.alive for))
+  step true is true for any' rest = has-fold rs (with_living os r) x (here (same is) (and_parts _ r.alive for).1)
   step true is false for any' rest = rest any'
   step false is c for any' rest = rest any'
 
 -- Who is waited for is among the living owners.
 pub waited_lives : (s : LockState) (owner other : ℕ) → waits_for_number s owner other ≡ true → has (living_owners s) other ≡ true
 waited_lives s owner other waits = step (wait_of s owner) waits where
-  second : (b c : Bool) → (b && c) ≡ true → c ≡ true
-  second true c is = is
-  second false c is = absurd (cc)
-
   step : (o : Option Request) → option_map_or (λ wait. is_for_number wait && is_wait_for s other wait) o false ≡ true → has (living_owners s) other ≡ true
   step None waits' = absurd (cc)
-  step (Some wait) waits' = any_living wait s.requests [] other (second (is_for_number wait) (is_wait_for s other wait) waits')
+  step (Some wait) waits' = any_living wait s.requests [] other (and_parts (is_for_number wait) (is_wait_for s other wait) waits').1
 
 -- There are no more living owners than requests.
 most_living : (rs : List Request) (os : List ℕ) → length (fold with_living os rs) ≤ length os + length rs

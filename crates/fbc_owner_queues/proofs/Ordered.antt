@@ -4,6 +4,7 @@ use Rattle.std.specs.List.{AllPairs, AllByRecursion, list_any, fold, insert, tak
 use Rattle.std.proofs.lemmas.Bool.Decides.{nat_tests}
 use Rattle.std.proofs.lemmas.List.Elements.{All-from_recursion}
 use Rattle.std.proofs.lemmas.List.Kept.{AllPairs-cons}
+use Rattle.std.proofs.Math.Bool.{and-false, and-true, or-false}
 use Rattle.fbc_levels.specs.declared.resources.Request.{Request}
 use Rattle.fbc_levels.specs.LockState.{LockState, is_alive_of}
 use Rattle.fbc_owner_queues.specs.Living.{has, with_owner, with_living, living_owners}
@@ -102,17 +103,9 @@ has-owner o x os = step (has os o) refl where
 
 has-living : (r : Request) (x : ℕ) (os : List ℕ) → has (with_living os r) x ≡ (is_alive_of x r || has os x)
 has-living r x os = step r.alive where
-  flat : (e : Bool) → (e && true) ≡ e
-  flat true = refl
-  flat false = refl
-
-  none : (e : Bool) → (e && false) ≡ false
-  none true = refl
-  none false = refl
-
   step : (b : Bool) → has (if b then with_owner r.owner os else os) x ≡ (((r.owner == x) && b) || has os x)
-  step true = rw (flat (r.owner == x)) (has-owner r.owner x os)
-  step false = rw (none (r.owner == x)) refl
+  step true = rw (and-true (r.owner == x)) (has-owner r.owner x os)
+  step false = rw (and-false (r.owner == x)) refl
 
 has-all : (rs : List Request) (x : ℕ) (os : List ℕ) → has (fold with_living os rs) x ≡ (list_any (is_alive_of x) rs || has os x)
 has-all [] x os = refl
@@ -121,7 +114,4 @@ has-all (r ∷ rs) x os = has-all rs x (with_living os r) ∙ rw (has-living r x
   swap a b c = grind (arith)
 
 pub living_those : (s : LockState) (owner : ℕ) → has (living_owners s) owner ≡ list_any (is_alive_of owner) s.requests
-living_those s owner = has-all s.requests owner [] ∙ flat (list_any (is_alive_of owner) s.requests) where
-  flat : (b : Bool) → (b || false) ≡ b
-  flat true = refl
-  flat false = refl
+living_those s owner = has-all s.requests owner [] ∙ or-false (list_any (is_alive_of owner) s.requests)

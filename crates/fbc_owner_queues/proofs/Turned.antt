@@ -4,6 +4,8 @@ use Rattle.std.specs.List.{AllPairs, AllByRecursion, find, filter, fold, list_an
 use Rattle.std.specs.Option.{option_map_or}
 use Rattle.std.proofs.lemmas.List.{map-append}
 use Rattle.std.proofs.lemmas.List.Elements.{recursion_from_All}
+use Rattle.std.proofs.Math.Bool.{and-false, or-true}
+use Rattle.std.proofs.lemmas.Bool.{not-false}
 use Rattle.fbc_levels.specs.declared.levels.Level.{Level}
 use Rattle.fbc_levels.specs.declared.resources.Resource.{Resource}
 use Rattle.fbc_levels.specs.declared.resources.Request.{Request}
@@ -97,25 +99,18 @@ stays_in_way owner resource o res level q more is =
 any_stays : (owner : ℕ) (resource : Resource) (o : ℕ) (res : Resource) (level : Level) (rs : List Request) → AllByRecursion WantsMore rs → list_any (stands_in_way owner resource level) rs ≡ true → list_any (stands_in_way owner resource level) (map (granting o res) rs) ≡ true
 any_stays owner resource o res level [] more any = absurd (cc)
 any_stays owner resource o res level (q ∷ rs) more any = step (stands_in_way owner resource level q) refl any (any_stays owner resource o res level rs more.1) where
-  or_true : (b : Bool) → b || true ≡ true
-  or_true true = refl
-  or_true false = refl
-
   step : (b : Bool) → stands_in_way owner resource level q ≡ b → b || list_any (stands_in_way owner resource level) rs ≡ true → (list_any (stands_in_way owner resource level) rs ≡ true → list_any (stands_in_way owner resource level) (map (granting o res) rs) ≡ true) → list_any (stands_in_way owner resource level) (map (granting o res) (q ∷ rs)) ≡ true
   step true is any' rest = rw (stays_in_way owner resource o res level q more.0 is) refl
-  step false is any' rest = rw (rest any') (or_true (stands_in_way owner resource level (granting o res q)))
+  step false is any' rest = rw (rest any') (or-true (stands_in_way owner resource level (granting o res q)))
 
 module _ (t : LockState) (o : ℕ) (res : Resource) (more : AllByRecursion WantsMore t.requests) where
   -- Who could not be granted what it waits for cannot after another's grant.
   clear_stays : (q : Request) (waiting : Option Level) → option_map_or (λ level. is_none (holder_of t q.owner q.resource level)) waiting false ≡ false → option_map_or (λ level. is_none (holder_of (after_grant t o res) q.owner q.resource level)) waiting false ≡ false
   clear_stays q None not_clear = refl
   clear_stays q (Some level) not_clear =
-      let found = flipped (list_any (stands_in_way q.owner q.resource level) t.requests) (sym (none_in_way (stands_in_way q.owner q.resource level) t.requests) ∙ not_clear) in
+      let found = not-false (list_any (stands_in_way q.owner q.resource level) t.requests) (sym (none_in_way (stands_in_way q.owner q.resource level) t.requests) ∙ not_clear) in
       let stays = any_stays q.owner q.resource o res level t.requests more found in
-      none_in_way (stands_in_way q.owner q.resource level) (map (granting o res) t.requests) ∙ rw stays refl where
-        flipped : (b : Bool) → not b ≡ false → b ≡ true
-        flipped true is = refl
-        flipped false is = absurd (cc)
+      none_in_way (stands_in_way q.owner q.resource level) (map (granting o res) t.requests) ∙ rw stays refl
 
   grantable_stays : (resource : Resource) (q : Request) → is_grantable t resource q ≡ false → is_grantable (after_grant t o res) resource q ≡ false
   grantable_stays resource q none = step (is_same_resource q.resource resource && q.alive) (is_clear t q) (clear_stays q q.waiting) none where
@@ -134,13 +129,9 @@ module _ (t : LockState) (o : ℕ) (res : Resource) (more : AllByRecursion Wants
   all_more_kept [] all = tt
   all_more_kept (q ∷ rs) all = (more_kept q all.0, all_more_kept rs all.1)
 
-and_false : (a : Bool) → (a && false) ≡ false
-and_false true = refl
-and_false false = refl
-
 -- Who was granted what it waited for waits no more.
 granted_waits_not : (t : LockState) (resource : Resource) (r : Request) → is_grantable t resource (granting r.owner r.resource r) ≡ false
-granted_waits_not t resource r = rw (is_of-self r) (and_false (is_same_resource r.resource resource && r.alive))
+granted_waits_not t resource r = rw (is_of-self r) (and-false (is_same_resource r.resource resource && r.alive))
 
 -- A search passes over those that do not pass.
 find_behind : {X : Type 0} (p : X → Bool) (xs ys : List X) → AllByRecursion (λ x. p x ≡ false) xs → find p (xs ++ ys) ≡ find p ys

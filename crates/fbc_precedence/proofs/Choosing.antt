@@ -1,6 +1,7 @@
 -- The page that is written next.
 use Rattle.std.proofs.Common.{◌≡◌, ◌↔◌, inl, inr, ℕ, Bool, true, false, ◌||◌, ◌==◌, List, [], ◌∷◌, Option, Some, None, MatchOption, unwrap_or, sym, ap, subst, refl, arith}
 use Rattle.std.proofs.lemmas.Bool.Decides.{nat_tests}
+use Rattle.std.proofs.lemmas.Bool.{or_right}
 use Rattle.fbc_kinds.specs.declared.edges.Edge.{Edge}
 use Rattle.fbc_precedence.specs.Pages.{has}
 use Rattle.fbc_precedence.specs.Precedence.{ComesBefore, IsBlocked, IsAtOrBefore, IsNextToWrite}
@@ -18,10 +19,7 @@ module _ (pairs : List Edge) (acyclic : (page : ℕ) → ComesBefore pairs page 
     alone other is = grind (arith, nat_tests, is)
   some-first x (y ∷ found) none = some-first y found (λ first is firsts. none first (later first is) (λ other there path. step other first is firsts (x == other) refl there path)) where
     later : (first : ℕ) → has (y ∷ found) first ≡ true → has (x ∷ y ∷ found) first ≡ true
-    later first is = or-true (x == first) (has (y ∷ found) first) is where
-      or-true : (a b : Bool) → b ≡ true → (a || b) ≡ true
-      or-true true b is' = refl
-      or-true false b is' = is'
+    later first is = or_right (x == first) (has (y ∷ found) first) is
 
     -- X stands before what is first of the others: then x is first of all.
     earliest : (first : ℕ) → IsFirstOf (y ∷ found) first → ComesBefore pairs x first → IsFirstOf (x ∷ y ∷ found) x

@@ -1,6 +1,7 @@
 -- How many of a list do not pass a test, and how that number falls.
 use Rattle.std.proofs.Common.{◌≡◌, ℕ, ◌+◌, ◌≤◌, Bool, true, false, not, ◌||◌, ◌&&◌, cond, if◌then◌else◌, List, [], ◌∷◌, length, refl, arith}
 use Rattle.std.specs.List.{filter, list_any}
+use Rattle.std.proofs.Math.Bool.{or-true}
 
 -- How many do not pass.
 abbrev pub left : {X : Type 0} → (X → Bool) → List X → ℕ
@@ -53,7 +54,4 @@ any-filtered p test (x ∷ xs) some = step (p x) some (any-filtered p test xs) w
 
   step : (a : Bool) → list_any test (cond a (x ∷ filter p xs) (filter p xs)) ≡ true → (list_any test (filter p xs) ≡ true → list_any test xs ≡ true) → (test x || list_any test xs) ≡ true
   step true some' rest = either (test x) (list_any test (filter p xs)) (list_any test xs) some' rest
-  step false some' rest = either (test x) true (list_any test xs) (or-true (test x)) (λ is. rest some') where
-    or-true : (a : Bool) → (a || true) ≡ true
-    or-true true = refl
-    or-true false = refl
+  step false some' rest = either (test x) true (list_any test xs) (or-true (test x)) (λ is. rest some')

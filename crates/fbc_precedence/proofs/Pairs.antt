@@ -3,6 +3,7 @@ use Rattle.std.proofs.Common.{◌≡◌, ◌⊎◌, inl, inr, ℕ, Bool, true, f
 use Rattle.std.specs.List.{list_any}
 use Rattle.std.proofs.lemmas.Bool.Decides.{nat_tests}
 use Rattle.std.proofs.lemmas.List.Folds.{list_any-append}
+use Rattle.std.proofs.lemmas.Bool.{or_right}
 use Rattle.fbc_kinds.specs.declared.edges.Edge.{Edge}
 use Rattle.fbc_precedence.specs.Precedence.{pair_of, is_pair, IsPair}
 use Rattle.fbc_precedence.proofs.Counting.{any-weaker}
@@ -34,10 +35,7 @@ passing test (pair ∷ pairs) some = step (test pair) refl some (passing test pa
   step true passes some' rest = record { high = pair.high; low = pair.low; pair = ap (λ b. b || list_any (is_pair pair.high pair.low) pairs) (is-itself pair.high pair.low); passes = passes }
   step false fails some' rest =
       let found = rest some' in
-      record { high = found.high; low = found.low; pair = or-true (is_pair found.high found.low pair) (list_any (is_pair found.high found.low) pairs) found.pair; passes = found.passes } where
-        or-true : (a b : Bool) → b ≡ true → (a || b) ≡ true
-        or-true true b is = refl
-        or-true false b is = is
+      record { high = found.high; low = found.low; pair = or_right (is_pair found.high found.low pair) (list_any (is_pair found.high found.low) pairs) found.pair; passes = found.passes }
 
 -- A pair of the list with one more is of the list or is that one.
 pub pair-of-more : (pairs : List Edge) (high low above below : ℕ) → IsPair (pairs ++ pair_of high low ∷ []) above below → IsPair pairs above below ⊎ ((above ≡ high) × (below ≡ low))

@@ -96,6 +96,13 @@ impl Graph {
         search::next_to_write(&self.pairs, page)
     }
 
+    /// Whether pairs lead from the high page to the low one. None lead from a page to itself.
+    pub fn leads(&self, high: u32, low: u32) -> bool
+        ensures { IsTrue result ↔ ComesBefore self.now.pairs high low }
+    {
+        high != low && search::stands_before(&self.pairs, high, low)
+    }
+
     /// Whether some page stands before this one.
     pub fn blocked(&self, page: u32) -> bool
         ensures { IsTrue result ↔ IsBlocked self.now.pairs page }

@@ -1,22 +1,10 @@
 -- Versions of a number, and what is seen where two tests agree on all versions.
-use Rattle.std.proofs.Common.{◌≡◌, ◌∙◌, ◌<◌, ◌==◌, ◌⊎◌, inl, inr, ℕ, zero, suc, Bool, true, false, List, [], ◌∷◌, length, get_or, refl, ap, arith, find, if◌then◌else◌}
+use Rattle.std.proofs.Common.{◌≡◌, ◌∙◌, ◌==◌, ◌⊎◌, inl, inr, ℕ, Bool, true, false, List, [], ◌∷◌, refl, ap, arith, find, if◌then◌else◌}
 use Rattle.std.specs.Prelude.{Some, Contains}
 use Rattle.std.specs.Option.{option_and_then}
 use Rattle.fbc_kinds.specs.Chain.{Version, see}
 use Rattle.fbc_kinds.proofs.Tests.{differ_from_test, same_from_test}
-
-pub first_in : {X : Type 0} (x : X) (xs : List X) → Contains (x ∷ xs) x
-first_in x xs = (0, omega arith, refl)
-
-pub later_in : {X : Type 0} (x : X) (xs : List X) (y : X) → Contains xs y → Contains (x ∷ xs) y
-later_in x xs y at = (suc at.0, omega (arith, at.1), at.2)
-
-pub first_or_later : {X : Type 0} (x : X) (xs : List X) (y : X) → Contains (x ∷ xs) y → (x ≡ y) ⊎ Contains xs y
-first_or_later x xs y at = go at.0 at.1 at.2
-  where
-    go : (k : ℕ) → k < length (x ∷ xs) → get_or (x ∷ xs) k y ≡ y → (x ≡ y) ⊎ Contains xs y
-    go zero lt same = inl same
-    go (suc k) lt same = inr (k, omega (arith, lt), same)
+pub use Rattle.fbc_runs.proofs.Places.{at_head as first_in, in_tail as later_in, head_or_tail as first_or_later}
 
 -- One of the versions has the number.
 pub record HasNumber (number : ℕ) (versions : List Version) : Type 0 where

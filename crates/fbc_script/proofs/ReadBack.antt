@@ -2,6 +2,7 @@
 use Rattle.std.proofs.Common.{◌≡◌, ℕ, ◌+◌, ◌<◌, Bool, true, false, ◌&&◌, ◌==◌, if◌then◌else◌, List, [], ◌∷◌, ◌++◌, length, Option, None, Result, Ok, Err, refl, ◌∙◌, arith}
 use Rattle.std.specs.List.{list_all}
 use Rattle.std.proofs.lemmas.Bool.Decides.{nat_tests}
+use Rattle.std.proofs.lemmas.Bool.{and_parts}
 use Rattle.fbc_script.specs.declared.faults.Why.{Why}
 use Rattle.fbc_script.specs.declared.faults.ScriptFault.{ScriptFault}
 use Rattle.fbc_script.specs.declared.script.Order.{Order}
@@ -18,10 +19,7 @@ no_feed : (byte : ℕ) → is_printable byte ≡ true → (byte == 10) ≡ false
 no_feed byte is = grind (arith, nat_tests)
 
 printable : (byte : ℕ) (bytes : List ℕ) → list_all is_printable (byte ∷ bytes) ≡ true → (is_printable byte ≡ true) × (list_all is_printable bytes ≡ true)
-printable byte bytes all = both_true (is_printable byte) (list_all is_printable bytes) all where
-  both_true : (a b : Bool) → (a && b) ≡ true → (a ≡ true) × (b ≡ true)
-  both_true true b both = (refl, both)
-  both_true false b both = cc
+printable byte bytes all = and_parts (is_printable byte) (list_all is_printable bytes) all
 
 split_lines-line : (line rest : List ℕ) → list_all is_printable line ≡ true → split_lines (line ++ 10 ∷ rest) ≡ line ∷ split_lines rest
 split_lines-line [] rest all = refl

@@ -2,8 +2,9 @@
 use Rattle.std.proofs.Common.{◌≡◌, ℕ, ◌≤◌, Bool, true, false, ◌&&◌, if◌then◌else◌, List, [], ◌∷◌, ◌++◌, length, map, codes, Option, Some, None, refl, sym, ap, subst, ◌∙◌}
 use Rattle.std.specs.Prelude.{count_by}
 use Rattle.std.specs.List.{AllByRecursion}
-use Rattle.std.proofs.lemmas.Bool.{eqb-true, leb-true, le-leb}
+use Rattle.std.proofs.lemmas.Bool.{eqb-true, leb-true, le-leb, and_parts}
 use Rattle.std.proofs.lemmas.Slice.Eq.{bytes_eq-Decides}
+use Rattle.std.proofs.lemmas.Option.{cond_some}
 use Rattle.fbc_script.specs.declared.script.Statement.TheVariants as statement
 use Rattle.fbc_script.specs.declared.script.Order.{Order}
 use Rattle.fbc_script.specs.declared.script.Order.TheVariants.{Plain}
@@ -14,15 +15,6 @@ use Rattle.fbc_script.specs.declared.single.SingleTransaction.{SingleTransaction
 use Rattle.fbc_script.specs.declared.single.SingleTransaction.TheVariants.{Absent, Steps}
 use Rattle.fbc_script.specs.SingleTransaction.{order_of, transaction_orders, is_short, IsShort, is_insert, HasSteps, Asks, Tells, is_attach, is_begin, is_commit, is_opening, is_here, step_of, with_step, if_last, steps_to_commit, has_few_inserts, if_few, few_steps, asked_by}
 
-both_true : (a b : Bool) → (a && b) ≡ true → (a ≡ true) × (b ≡ true)
-both_true true true both = (refl, refl)
-both_true true false both = cc
-both_true false b both = cc
-
-guarded : {A : Type 0} (is : Bool) (a b : A) → (if is then Some a else None) ≡ Some b → (is ≡ true) × (a ≡ b)
-guarded true a b some = (refl, cc)
-guarded false a b some = cc
-
 -- The tests of single orders.
 attach-is : (order : Order) → is_attach order ≡ true → order ≡ Plain 1 statement.Attach
 attach-is (Plain at statement.Attach) is = ap (λ n. Plain n statement.Attach) (eqb-true _ _ is)
@@ -30,7 +22,7 @@ attach-is _ is = cc
 
 begin-is : (order : Order) → is_begin order ≡ true → order ≡ Plain 1 (statement.Begin true)
 begin-is (Plain at (statement.Begin wait)) is =
-    let both = both_true _ _ is in
+    let both = and_parts _ _ is in
     ap (λ n. Plain n (statement.Begin wait)) (eqb-true _ _ both.0) ∙ ap (λ w. Plain 1 (statement.Begin w)) both.1
 begin-is _ is = cc
 
@@ -41,18 +33,18 @@ commit-is _ is = cc
 -- A step is read from its order alone.
 here-is : (at : ℕ) (relation : List ℕ) → is_here at relation ≡ true → (at ≡ 1) × (relation ≡ codes "t")
 here-is at relation is =
-    let both = both_true _ _ is in
+    let both = and_parts _ _ is in
     (eqb-true _ _ both.0, (bytes_eq-Decides relation (codes "t")).0 both.1)
 
 step-is : (order : Order) (step : Step) → step_of order ≡ Some step → (order ≡ order_of step) × IsShort step
 step-is (Plain at (statement.Insert relation text)) step some =
-    let found = guarded (is_here at relation && is_short text) (Insert text) step some in
-    let both = both_true _ _ found.0 in
+    let found = cond_some (is_here at relation && is_short text) (Insert text) step some in
+    let both = and_parts _ _ found.0 in
     let here = here-is at relation both.0 in
     let P : Step → Type 0 = λ s. (Plain at (statement.Insert relation text) ≡ order_of s) × IsShort s in
     subst P found.1 (rw (here.0, here.1) refl, both.1)
 step-is (Plain at (statement.Read relation row)) step some =
-    let found = guarded (is_here at relation) (Read row) step some in
+    let found = cond_some (is_here at relation) (Read row) step some in
     let here = here-is at relation found.0 in
     let P : Step → Type 0 = λ s. (Plain at (statement.Read relation row) ≡ order_of s) × IsShort s in
     subst P found.1 (rw (here.0, here.1) refl, tt)
@@ -130,7 +122,7 @@ asked-read (Steps steps) lines size asks = transaction-read lines steps asks.ord
 
 few-is : (found : Option (List Step)) (asked : SingleTransaction) → if_few found ≡ Some asked → (steps : List Step) × (found ≡ Some steps) × (has_few_inserts steps ≡ true) × (Steps steps ≡ asked)
 few-is None asked some = cc
-few-is (Some steps) asked some = let few = guarded _ _ _ some in (steps, refl, few.0, few.1)
+few-is (Some steps) asked some = let few = cond_some _ _ _ some in (steps, refl, few.0, few.1)
 
 opening-is : (is : Bool) (lines : List Line) (asked : SingleTransaction) → (if is then few_steps lines else None) ≡ Some asked → (is ≡ true) × (few_steps lines ≡ Some asked)
 opening-is true lines asked some = (refl, some)
@@ -153,7 +145,7 @@ asks-is asked [] size all some =
 asks-is asked (line ∷ []) size all some = cc
 asks-is asked (attach ∷ begin ∷ lines) size all some =
     let opened = opening-is (is_opening attach begin) lines asked some in
-    let both = both_true _ _ opened.0 in
+    let both = and_parts _ _ opened.0 in
     let few = few-is (steps_to_commit lines) asked opened.1 in
     let steps = steps-are lines few.0 few.1 in
     let P : SingleTransaction → Type 0 = λ a. Asks a (record { lines = attach ∷ begin ∷ lines; length = size }) in

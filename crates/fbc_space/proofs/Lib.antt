@@ -1,0 +1,7 @@
+mod Used
+mod Choosing
+mod Searching
+mod FreeUses
+mod Staged
+mod Exact
+mod Ways

@@ -1,0 +1,5 @@
+pub mod Inventories
+pub mod Marks
+pub mod Snapshots
+pub mod States
+pub mod Using
