@@ -10,3 +10,5 @@ mod driver;
 mod space_tests;
 #[cfg(test)]
 mod tip_tests;
+#[cfg(test)]
+mod tra_tests;

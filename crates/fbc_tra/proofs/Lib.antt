@@ -1,0 +1,4 @@
+mod Ways
+mod Runs
+mod Tips
+mod Ends
