@@ -7,6 +7,8 @@ mod desk_tests;
 #[cfg(test)]
 mod driver;
 #[cfg(test)]
+mod row_tests;
+#[cfg(test)]
 mod space_tests;
 #[cfg(test)]
 mod tip_tests;

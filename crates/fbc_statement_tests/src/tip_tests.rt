@@ -18,7 +18,11 @@ const HEADER: Place = Place {
 };
 
 /// The snapshot, with the page that it wants.
-fn snapshot_of(rt: &impl Abort, alloc: Global, desk: &mut Desk) -> Result<Snapshot, Fail> {
+pub(crate) fn snapshot_of(
+    rt: &impl Abort,
+    alloc: Global,
+    desk: &mut Desk,
+) -> Result<Snapshot, Fail> {
     let mut part = InventoryPart::new();
     for _ in 0..2 {
         match try_inventory(alloc, &mut part, desk)? {

@@ -1,0 +1,5 @@
+mod Damaged
+mod Ends
+mod Missed
+mod Steps
+mod Ways

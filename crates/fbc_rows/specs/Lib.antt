@@ -1,0 +1,10 @@
+pub mod Damages
+pub mod Gathering
+pub mod Inserting
+pub mod Making
+pub mod Missing
+pub mod Needs
+pub mod Parts
+pub mod Putting
+pub mod Searching
+pub mod Slots

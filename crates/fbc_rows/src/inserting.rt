@@ -1,0 +1,336 @@
+//! The body of an insert.
+#![tactic(auto, using(fbc_desk::proofs::Goes::goes_on))]
+
+ghost use Rattle.std.specs.Prelude.{◌≡◌, ℕ, IfOk, IfSome, OnErr, Some, true};
+ghost use Rattle.fbc_desk.specs.Calls.{GoesOn};
+ghost use Rattle.fbc_chains.specs.Showing.{Showing, shown_by};
+ghost use Rattle.fbc_rows.specs.declared.parts.RowStep.TheVariants as steps;
+ghost use Rattle.fbc_rows.specs.Inserting.{FindsCell, InsertComesTo, IsAtEnd, IsBefore, IsBetween, Leaves, LimitComes, Searches, SearchesFirst, place_after};
+ghost use Rattle.fbc_rows.specs.Damages.{Damages, StopDamages};
+ghost use Rattle.fbc_rows.specs.Missing.{Misses, StopMisses};
+ghost use Rattle.fbc_rows.specs.Parts.{is_searching};
+ghost use Rattle.fbc_rows.specs.Searching.{ArePassed, SearchStops};
+
+use crate::gathering::{find_page, find_slot, get_page, look_for_pointers};
+use crate::making::{name_page, take_page, use_page, use_pointer};
+use crate::needs::leave_all;
+use crate::parts::{InsertPart, RowStep, Stage};
+use crate::putting::put_row;
+use crate::searching::{Stop, search};
+use fbc_desk::Desk;
+use fbc_kinds::Value;
+use std::alloc::AllocError;
+
+/// Puts a new row of the relation, made by the transaction of that number, into the first empty cell from the part's sequence
+/// on; or into a new data page, where no page has one. Where a page is missing or a write is due first, the part stays where it
+/// stands, and goes on from there when it is called again. The place is the sequence at which the relation got its last row.
+///
+/// # Errors
+///
+/// Want of memory: what was done stands, as the part says.
+pub fn try_insert(
+    part: &mut InsertPart,
+    desk: &mut Desk,
+    relation: u8,
+    place: &mut u32,
+    number: u32,
+    value: Value,
+) -> Result<RowStep, AllocError>
+    ensures comes { IfOk result (InsertComesTo desk.old relation number value place.old place.new desk.new) }
+    ensures limit { IfOk result (LimitComes (shown_by desk.old.cache) relation part.old) }
+    ensures searches { is_searching part.old.stage ≡ true → IfOk result (Searches (shown_by desk.old.cache) relation part.old.at part.new) }
+    ensures leaves { IfOk result (Leaves desk.new part.new) }
+    ensures misses { IfOk result (Misses desk.new) }
+    ensures damages { IfOk result (Damages desk.new relation) }
+    ensures goes { GoesOn desk.old desk.new }
+    ensures err { OnErr result (place.new ≡ place.old) }
+{
+    if let Some(step) = find_room(part, desk, relation, *place) {
+        return Ok(step);
+    }
+    if let Some(step) = make_page(part, desk, relation)? {
+        return Ok(step);
+    }
+    put(part, desk, relation, place, number, value)
+}
+
+/// Puts the row, where the part stands there: then the place is the sequence of its page.
+fn put(
+    part: &InsertPart,
+    desk: &mut Desk,
+    relation: u8,
+    place: &mut u32,
+    number: u32,
+    value: Value,
+) -> Result<RowStep, AllocError>
+    ensures comes { IfOk result (InsertComesTo desk.old relation number value place.old place.new desk.new) }
+    ensures ends { IfOk result IsAtEnd }
+    ensures leaves { IfOk result (Leaves desk.new part.now) }
+    ensures misses { IfOk result (Misses desk.new) }
+    ensures damages { IfOk result (Damages desk.new relation) }
+    ensures goes { GoesOn desk.old desk.new }
+    ensures err { OnErr result (place.new ≡ place.old) }
+{
+    match part.stage {
+        Stage::Put {
+            page,
+            sequence,
+            cell,
+        } => {
+            let step = put_row(desk, relation, number, value, page, sequence, cell)?;
+            *place = place_after(&step, sequence, *place);
+            Ok(step)
+        }
+        _ => Ok(RowStep::Refused),
+    }
+}
+
+/// The place afterwards: the sequence, where the row is put.
+fn place_after(step: &RowStep, sequence: u32, place: u32) -> u32
+    ensures { result ≡ place_after step.now sequence place }
+{
+    match step {
+        RowStep::Done { row: _ } => sequence,
+        _ => place,
+    }
+}
+
+/// Finds an empty cell, or what a new data page needs.
+fn find_room(part: &mut InsertPart, desk: &mut Desk, relation: u8, place: u32) -> Option<RowStep>
+    ensures before { IfSome result (IsBefore (shown_by desk.old.cache) relation part.old) }
+    ensures leaves { IfSome result (Leaves desk.new part.new) }
+    ensures searches { is_searching part.old.stage ≡ true → SearchesFirst (shown_by desk.old.cache) relation part.old.at part.new result }
+    ensures misses { IfSome result (Misses desk.new) }
+    ensures damages { IfSome result (Damages desk.new relation) }
+    ensures goes { GoesOn desk.old desk.new }
+{
+    if let Some(step) = find_cell(part, desk, relation, place) {
+        return Some(step);
+    }
+    if let Some(step) = find_empty_slot(part, desk, relation, place) {
+        return Some(step);
+    }
+    if let Some(step) = look_past_slots(part, desk, relation) {
+        return Some(step);
+    }
+    find_free_page(part, desk)
+}
+
+/// The search for an empty cell, where the part stands there.
+fn find_cell(part: &mut InsertPart, desk: &mut Desk, relation: u8, place: u32) -> Option<RowStep>
+    ensures finds { is_searching part.old.stage ≡ true → FindsCell (shown_by desk.old.cache) relation part.old.at part.old.last part.new result }
+    ensures before { IfSome result (IsBefore (shown_by desk.old.cache) relation part.old) }
+    ensures leaves { IfSome result (Leaves desk.new part.new) }
+    ensures misses { IfSome result (Misses desk.new) }
+    ensures damages { IfSome result (Damages desk.new relation) }
+    ensures goes { GoesOn desk.old desk.new }
+{
+    if !part.is_searching() {
+        return None;
+    }
+    let found = search(part, desk, relation);
+    end_search(part, desk, relation, place, found)
+}
+
+/// What the search for an empty cell comes to, of which this is found: the row is put there, or slots are looked at; or the last
+/// pass is over.
+fn end_search(
+    part: &mut InsertPart,
+    desk: &mut Desk,
+    relation: u8,
+    place: u32,
+    found: Option<Stop>,
+) -> Option<RowStep>
+    ensures finds { (s : Showing) (from : ℕ) → ArePassed s relation from part.old.at → SearchStops s relation part.old.at found
+        → FindsCell s relation from part.old.last part.new result }
+    ensures leaves { IfSome result (Leaves desk.new part.new) }
+    ensures misses { IfSome found (StopMisses desk.old) → IfSome result (Misses desk.new) }
+    ensures damages { IfSome found (StopDamages desk.old relation) → IfSome result (Damages desk.new relation) }
+    ensures goes { GoesOn desk.old desk.new }
+{
+    match found {
+        Some(stop) => end_at(part, desk, relation, place, stop),
+        None => match part.last {
+            Some(pages) => Some(RowStep::Limit { pages }),
+            None => {
+                part.stage = Stage::Slots { pointer: 0 };
+                None
+            }
+        },
+    }
+}
+
+/// What the search for an empty cell comes to, of which this stops it at a sequence.
+fn end_at(
+    part: &mut InsertPart,
+    desk: &mut Desk,
+    relation: u8,
+    place: u32,
+    stop: Stop,
+) -> Option<RowStep>
+    ensures finds { (s : Showing) (from : ℕ) → ArePassed s relation from part.old.at → SearchStops s relation part.old.at (Some stop)
+        → FindsCell s relation from part.old.last part.new result }
+    ensures leaves { IfSome result (Leaves desk.new part.new) }
+    ensures misses { StopMisses desk.old stop → IfSome result (Misses desk.new) }
+    ensures damages { StopDamages desk.old relation stop → IfSome result (Damages desk.new relation) }
+    ensures goes { GoesOn desk.old desk.new }
+{
+    match stop {
+        Stop::Room { page, cell } => {
+            part.stage = Stage::Put {
+                page,
+                sequence: part.at,
+                cell,
+            };
+            None
+        }
+        Stop::Miss(need) => Some(RowStep::Miss(need)),
+        Stop::Gone => Some(search_anew(part, desk, place)),
+        Stop::Damaged { page, rule } => Some(RowStep::Damaged { page, rule }),
+    }
+}
+
+/// The search goes back, and begins anew.
+fn search_anew(part: &mut InsertPart, desk: &mut Desk, place: u32) -> RowStep
+    ensures again { result ≡ steps.Again }
+    ensures leaves { Leaves desk.new part.new result }
+    ensures misses { Misses desk.new result }
+    ensures goes { GoesOn desk.old desk.new }
+{
+    part.go_back(place);
+    leave_all(desk);
+    RowStep::Again
+}
+
+/// The search for an empty slot, where the part stands there.
+fn find_empty_slot(
+    part: &mut InsertPart,
+    desk: &mut Desk,
+    relation: u8,
+    place: u32,
+) -> Option<RowStep>
+    ensures between { IfSome result IsBetween }
+    ensures leaves { IfSome result (Leaves desk.new part.new) }
+    ensures misses { IfSome result (Misses desk.new) }
+    ensures damages { IfSome result (Damages desk.new relation) }
+    ensures goes { GoesOn desk.old desk.new }
+{
+    match part.stage {
+        Stage::Slots { pointer } => find_slot(part, desk, relation, place, pointer),
+        _ => None,
+    }
+}
+
+/// The look at the header, where the part stands there.
+fn look_past_slots(part: &mut InsertPart, desk: &mut Desk, relation: u8) -> Option<RowStep>
+    ensures between { IfSome result IsBetween }
+    ensures leaves { IfSome result (Leaves desk.new part.new) }
+    ensures misses { IfSome result (Misses desk.new) }
+    ensures damages { IfSome result (Damages desk.new relation) }
+    ensures goes { GoesOn desk.old desk.new }
+{
+    match part.stage {
+        Stage::Header { known } => Some(look_for_pointers(part, desk, relation, known)),
+        _ => None,
+    }
+}
+
+/// The search for a free page, where the part stands there.
+fn find_free_page(part: &mut InsertPart, desk: &mut Desk) -> Option<RowStep>
+    ensures between { IfSome result IsBetween }
+    ensures leaves { IfSome result (Leaves desk.new part.new) }
+    ensures misses { IfSome result (Misses desk.new) }
+    ensures damages { (relation : ℕ) → IfSome result (Damages desk.new relation) }
+    ensures goes { GoesOn desk.old desk.new }
+{
+    if let Some(step) = look_for_page(part, desk) {
+        return Some(step);
+    }
+    match part.stage {
+        Stage::Get { new } => get_page(part, desk, new),
+        _ => None,
+    }
+}
+
+/// The look at page inventories, where the part stands there.
+fn look_for_page(part: &mut InsertPart, desk: &mut Desk) -> Option<RowStep>
+    ensures between { IfSome result IsBetween }
+    ensures leaves { IfSome result (Leaves desk.new part.new) }
+    ensures misses { IfSome result (Misses desk.new) }
+    ensures damages { (relation : ℕ) → IfSome result (Damages desk.new relation) }
+    ensures goes { GoesOn desk.old desk.new }
+{
+    match part.stage {
+        Stage::Find { sequence, search } => find_page(part, desk, sequence, search),
+        _ => None,
+    }
+}
+
+/// A data page is made, where the part stands there.
+fn make_page(
+    part: &mut InsertPart,
+    desk: &mut Desk,
+    relation: u8,
+) -> Result<Option<RowStep>, AllocError>
+    ensures between { IfOk result (λ done. IfSome done IsBetween) }
+    ensures leaves { IfOk result (λ done. IfSome done (Leaves desk.new part.new)) }
+    ensures misses { IfOk result (λ done. IfSome done (Misses desk.new)) }
+    ensures damages { IfOk result (λ done. IfSome done (Damages desk.new relation)) }
+    ensures goes { GoesOn desk.old desk.new }
+{
+    if let Some(step) = use_pages(part, desk, relation) {
+        return Ok(Some(step));
+    }
+    if let Some(step) = take(part, desk, relation)? {
+        return Ok(Some(step));
+    }
+    match part.stage {
+        Stage::Name { new } => name_page(part, desk, relation, new),
+        _ => Ok(None),
+    }
+}
+
+/// The pages that a new data page needs are used, where the part stands there.
+fn use_pages(part: &mut InsertPart, desk: &mut Desk, relation: u8) -> Option<RowStep>
+    ensures between { IfSome result IsBetween }
+    ensures leaves { IfSome result (Leaves desk.new part.new) }
+    ensures misses { IfSome result (Misses desk.new) }
+    ensures damages { IfSome result (Damages desk.new relation) }
+    ensures goes { GoesOn desk.old desk.new }
+{
+    if let Some(step) = use_slot(part, desk, relation) {
+        return Some(step);
+    }
+    match part.stage {
+        Stage::Free { new } => use_page(part, desk, new),
+        _ => None,
+    }
+}
+
+/// The pointer page with the empty slot is used, where the part stands there.
+fn use_slot(part: &mut InsertPart, desk: &mut Desk, relation: u8) -> Option<RowStep>
+    ensures between { IfSome result IsBetween }
+    ensures leaves { IfSome result (Leaves desk.new part.new) }
+    ensures misses { IfSome result (Misses desk.new) }
+    ensures damages { IfSome result (Damages desk.new relation) }
+    ensures goes { GoesOn desk.old desk.new }
+{
+    match part.stage {
+        Stage::Pointer { new } => use_pointer(part, desk, relation, new),
+        _ => None,
+    }
+}
+
+/// The free page becomes a data page, where the part stands there.
+fn take(part: &mut InsertPart, desk: &mut Desk, relation: u8) -> Result<Option<RowStep>, AllocError>
+    ensures between { IfOk result (λ done. IfSome done IsBetween) }
+    ensures leaves { IfOk result (λ done. IfSome done (Leaves desk.new part.new)) }
+    ensures misses { IfOk result (λ done. IfSome done (Misses desk.new)) }
+    ensures damages { IfOk result (λ done. IfSome done (Damages desk.new relation)) }
+    ensures goes { GoesOn desk.old desk.new }
+{
+    match part.stage {
+        Stage::Take { new, taking } => take_page(part, desk, relation, new, taking),
+        _ => Ok(None),
+    }
+}
