@@ -8,6 +8,7 @@
 //!   - `Waiting::take` takes an answer (`after`). Got comes next exactly after Granted (`got`), and Over exactly
 //!     after Busy, Room or Deadlock, with that reply (`over`). Something is asked exactly after Queued and NotYet,
 //!     and then it is a Look, and after Reaped, and then it is the same again (`must`).
+//!   - `Waiting::is_answered_by` tells whether an answer is one to that ask.
 //!   - What is asked is no page, and its level is not none (`lawful`). Nothing takes memory.
 //! - **Supposed**: of a lock that is got so, that it is of no page and that its level is not none (`MayWaitFor`);
 //!   of an answer, that it is one to the ask that `next` gave (`is_answer_to`).

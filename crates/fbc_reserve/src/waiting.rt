@@ -94,6 +94,28 @@ impl Waiting {
         }
     }
 
+    /// Whether the answer is one to what `next` gives.
+    pub fn is_answered_by(&self, answer: &Answer) -> bool
+        ensures { result ≡ is_answer_to (step_of self.now) answer.now }
+    {
+        match self.stage {
+            Stage::Asks => matches!(
+                answer,
+                Answer::Granted
+                    | Answer::Queued
+                    | Answer::Busy { .. }
+                    | Answer::Room { .. }
+                    | Answer::Deadlock { .. }
+                    | Answer::Reaped { .. }
+            ),
+            Stage::Looks => matches!(
+                answer,
+                Answer::Granted | Answer::NotYet { .. } | Answer::Reaped { .. }
+            ),
+            Stage::Got | Stage::Over(_) => false,
+        }
+    }
+
     /// Takes the answer to the ask that `next` gave.
     pub fn take(&mut self, answer: &Answer)
         requires { is_answer_to (step_of self.old) answer.now ≡ true }
