@@ -1,2 +1,4 @@
+pub mod Attachment
 pub mod Refusals
+pub mod Running
 pub mod StepNames

@@ -1,18 +1,45 @@
-//! One attachment: its statements, from what they say to their answers. So far what needs no page stands here.
+//! One attachment: its statements, each from its words to its answer, done step by step over its own desk. So far it attaches,
+//! begins, inserts, reads and commits.
+//!
+//! An attachment is given a statement (`give`), tells the step that it takes next (`next`), and takes the answer (`take`). Before
+//! a statement, and while it waits, it asks whether somebody waits for one of its pages, and serves who does; when it is idle, it
+//! does so where it was called (`called`). Contracts see it as an `AttachmentState` (`specs/Attachment`).
 //!
 //! - **Proved**:
+//!   - `give` is Busy exactly where a statement is unanswered. `next` tells exactly what comes next (`moves`): Idle exactly where
+//!     no step is due, no statement is unanswered and it was not called since its last poll (`idle`); Die exactly where the step
+//!     that is due is the one that the trap names (`die`); else the answer, or the ask of that step. `next` and `bears` take no
+//!     memory.
+//!   - A page that `next` lets write is below the limit of the file, whatever the file holds (`below`).
+//!   - What `take` does at the desk, once the answer is taken, is a run of its calls in which transactions begin and are over
+//!     (`runs`, by `specs/Running`, of each part); who the attachment is stays, and its trap comes nearer by a step that bears its
+//!     name (`same`).
+//!   - A callback on a page in use is not served (`kept`); any other is served by the next step that gives the page up (`due`).
 //!   - `refusal_of` tells whether a statement is refused by its own words, and how, in the order of the refusals
 //!     (`order`): each comes exactly where it is said to (`no_relation`, `no_transaction`, `already_open`,
 //!     `too_long`). `relation_number` gives the number of a relation, which is its place among the
 //!     names of the file's shape.
 //!   - `bears` tells exactly which names a step bears.
-//!   - Nothing takes memory.
-//! - **Supposed**: the shape is one that a file may have (`IsShape`), and of a step that the caller says whether
-//!   the page of its write is a transaction inventory page.
+//! - **Supposed**: the shape is one that a file may have (`IsFileShape`). An answer that is none to the step that was due, and an
+//!   image of another size than a page, end with an error.
+//! - **Argued**: that steps come in the order in which they are due, and that none of them is refused, is a matter of tests
+//!   so far, and not of contracts. A statement that is not built, or needs a further page inventory, transaction inventory or
+//!   pointer page, ends with an error (`is_built`, `is_unbuilt`).
+//! - Plays of the tests use it, and no command of the program yet.
 #![tactic(auto)]
 
+mod attachment;
+mod bodies;
+mod due;
+mod errands;
+mod getting;
+mod moves;
+mod polls;
 mod refusals;
 mod step_names;
+mod taking;
 
+pub use attachment::{Attachment, Busy, Move};
+pub use bodies::is_built;
 pub use refusals::{Refusal, refusal_of, relation_number};
 pub use step_names::bears;
