@@ -20,8 +20,8 @@
 //!     `too_long`). `relation_number` gives the number of a relation, which is its place among the
 //!     names of the file's shape.
 //!   - `bears` tells exactly which names a step bears.
-//! - **Supposed**: the shape is one that a file may have (`IsFileShape`). An answer that is none to the step that was due, and an
-//!   image of another size than a page, end with an error.
+//! - **Supposed**: the shape is one that a file may have (`IsFileShape`), and an answer is one to the step that was due, which is
+//!   tested for polls alone. An image of another size than a page ends with an error.
 //! - **Argued**: that steps come in the order in which they are due, and that none of them is refused, is a matter of tests
 //!   so far, and not of contracts. A statement that is not built, or needs a further page inventory, transaction inventory or
 //!   pointer page, ends with an error (`is_built`, `is_unbuilt`).

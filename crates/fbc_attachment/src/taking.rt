@@ -16,11 +16,14 @@ use fbc_world::Answer;
 use std::alloc::AllocError;
 
 impl Attachment {
-    /// Takes the answer to the step that was due. What was read stands in the image, of the size of a page.
+    /// Takes the answer to the step that was due. What was read stands in the image, of the size of a page. That the answer is
+    /// one to that step is tested for polls alone.
     ///
     /// # Errors
     ///
-    /// Want of memory; and an answer that is none to the step, or a step that no statement may make.
+    /// No step was due, or the image has another size than a page: nothing changes then. Want of memory; an answer to a poll that
+    /// is none; a statement or a page that is not built yet (`is_built`, `is_unbuilt`); and what no statement should come to: an
+    /// edit that the desk refuses, a step that may not be due, or no step in many turns. The attachment then goes on no more.
     pub fn take(&mut self, answer: &Answer, image: &[u8]) -> Result<(), AllocError>
         ensures same { OnOk result (IsSame (counted self.old) self.new) }
         ensures due { OnOk result (is_some self.old.due ≡ true) }
