@@ -35,7 +35,7 @@
 //!   the edit fits it (`may_edit`); a page that is wanted may be so (`may_want`); bytes read are a page's; a page
 //!   that is spelled has a copy (`has_copy`), and a buffer has the size of a page or room for the value.
 //!   That a format carries the number of its page is a matter of who edits.
-//! - Tests drive the cache by hand; no attachment uses it yet.
+//! - An attachment uses it through its desk (`fbc_desk`), and tests drive it by hand besides.
 #![tactic(auto)]
 
 mod cache;

@@ -22,7 +22,7 @@
 //!   the file may have (`want`).
 //! - **Argued**: that what passes the tests is legal is a matter of laws that are not there yet. An event for
 //!   which there is no place spills (`is_spilled`), and no body does so much between two steps.
-//! - No attachment uses it yet.
+//! - The bodies of statements and `fbc_attachment` use it, in plays of the tests; no command of the program does so yet.
 #![tactic(auto)]
 
 mod desk;
