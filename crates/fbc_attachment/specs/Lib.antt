@@ -1,4 +1,5 @@
 pub mod Attachment
+pub mod Behind
 pub mod Refusals
 pub mod Running
 pub mod StepNames

@@ -11,9 +11,10 @@
 //!     that is due is the one that the trap names (`die`); else the answer, or the ask of that step. `next` and `bears` take no
 //!     memory.
 //!   - A page that `next` lets write is below the limit of the file, whatever the file holds (`below`).
-//!   - What `take` does at the desk, once the answer is taken, is a run of its calls in which transactions begin and are over
-//!     (`runs`, by `specs/Running`, of each part); who the attachment is stays, and its trap comes nearer by a step that bears its
-//!     name (`same`).
+//!   - An answer is taken only where a step is due, with an image of the size of a page (`may`, `untaken`). The desk as it stood
+//!     then takes it, and what follows is a run of its calls in which transactions begin and are over (`runs`, by `specs/Behind`
+//!     and `specs/Running`). Bytes that spell no page are not taken, and after a write that failed the desk is left. Who the
+//!     attachment is stays, and its trap comes nearer by a step that bears its name (`same`).
 //!   - A callback on a page in use is not served (`kept`); any other is served by the next step that gives the page up (`due`).
 //!   - `refusal_of` tells whether a statement is refused by its own words, and how, in the order of the refusals
 //!     (`order`): each comes exactly where it is said to (`no_relation`, `no_transaction`, `already_open`,

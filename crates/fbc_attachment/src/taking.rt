@@ -1,8 +1,10 @@
 //! What an attachment does with an answer.
-#![tactic(auto, using(crate::proofs::Runs::run_steps))]
+#![tactic(auto, using(crate::proofs::Runs::run_steps, crate::proofs::Behind::runs_behind))]
 
-ghost use Rattle.std.specs.Prelude.{◌≡◌, OnOk, is_some, true};
-ghost use Rattle.fbc_attachment.specs.Attachment.{IsSame, counted};
+ghost use Rattle.std.specs.Prelude.{◌≡◌, IfSome, OnOk, length};
+ghost use Rattle.fbc_attachment.specs.Attachment.{IsSame, ask_of, counted};
+ghost use Rattle.fbc_attachment.specs.Behind as spec;
+ghost use Rattle.fbc_attachment.specs.Behind.{MayTake, RunsBehind};
 ghost use Rattle.fbc_attachment.specs.Running.{Runs};
 
 use crate::attachment::Attachment;
@@ -25,8 +27,10 @@ impl Attachment {
     /// is none; a statement or a page that is not built yet (`is_built`, `is_unbuilt`); and what no statement should come to: an
     /// edit that the desk refuses, a step that may not be due, or no step in many turns. The attachment then goes on no more.
     pub fn take(&mut self, answer: &Answer, image: &[u8]) -> Result<(), AllocError>
+        ensures may { OnOk result (MayTake self.old image.now) }
+        ensures untaken { ¬ MayTake self.old image.now → self.new ≡ self.old }
         ensures same { OnOk result (IsSame (counted self.old) self.new) }
-        ensures due { OnOk result (is_some self.old.due ≡ true) }
+        ensures runs { OnOk result (IfSome self.old.due (λ due. RunsBehind self.old.desk self.new.desk (ask_of due) answer.now image.now)) }
     {
         let due = match self.due {
             Some(due) => due,
@@ -37,7 +41,16 @@ impl Attachment {
         }
         self.count_down();
         self.due = None;
-        if matches!(answer, Answer::WriteFault) {
+        self.hear_step(due, answer, image)
+    }
+
+    /// Takes the answer to the step. After a write that failed no statement is unanswered.
+    fn hear_step(&mut self, due: Due, answer: &Answer, image: &[u8]) -> Result<(), AllocError>
+        requires size { length image.now ≡ self.old.desk.cache.shape.size }
+        ensures same { IsSame self.old self.new }
+        ensures runs { OnOk result (RunsBehind self.old.desk self.new.desk (ask_of due) answer.now image.now) }
+    {
+        if is_write_fault(answer) {
             self.end();
             return Ok(());
         }
@@ -112,4 +125,11 @@ impl Attachment {
         self.reply = Some(reply);
         self.due = Some(Due::Note);
     }
+}
+
+/// Whether a write failed.
+fn is_write_fault(answer: &Answer) -> bool
+    ensures { result ≡ spec.is_write_fault answer.now }
+{
+    matches!(answer, Answer::WriteFault)
 }
