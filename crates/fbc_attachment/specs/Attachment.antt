@@ -1,6 +1,9 @@
 -- What is seen of an attachment from outside, and the step that it takes next.
-use Rattle.std.specs.Prelude.{◌≡◌, ◌<◌, ◌-◌, ◌==◌, ◌&&◌, ℕ, Bool, true, false, if◌then◌else◌, nat_lt, Option, Some, None}
+use Rattle.std.specs.Prelude.{◌≡◌, ◌<◌, ◌-◌, ◌==◌, ◌&&◌, ℕ, Bool, true, false, if◌then◌else◌, nat_lt, List, [], Option, Some, None, IfSome}
 use Rattle.std.specs.Option.{option_map, option_map_or}
+use Rattle.fbc_kinds.specs.declared.pages.Page.{Page}
+use Rattle.fbc_kinds.specs.declared.shapes.Shape.{Shape}
+use Rattle.fbc_kinds.specs.Spelling.{IsSpelling}
 use Rattle.fbc_kinds.specs.declared.replies.Reply.{Reply}
 use Rattle.fbc_kinds.specs.declared.replies.Reply.TheVariants as reply
 use Rattle.fbc_outside.specs.declared.gate.StepName.{StepName}
@@ -9,7 +12,7 @@ use Rattle.fbc_script.specs.declared.script.Statement.TheVariants as statement
 use Rattle.fbc_script.specs.declared.script.Trap.{Trap}
 use Rattle.fbc_world.specs.declared.asks.Ask.{Ask}
 use Rattle.fbc_world.specs.declared.asks.Ask.TheVariants as ask
-use Rattle.fbc_cache.specs.Cache.{copy_in}
+use Rattle.fbc_cache.specs.Cache.{CacheState, copy_in}
 use Rattle.fbc_cache.specs.Readers.{place_in}
 use Rattle.fbc_desk.specs.Desk.{DeskState}
 use Rattle.fbc_attachment.specs.declared.attachment.Move.{Move}
@@ -22,7 +25,7 @@ use Rattle.fbc_attachment.specs.StepNames.{bears}
 
 -- Its owner number, its name, and for how many pages it comes; how many pages the file has at most; its desk; the statement that is
 -- not answered; how far a moment of polls has come, and whether it was called since its last poll; the step that is due; the reply
--- that is not told yet; and the death that waits.
+-- that is not told yet; the death that waits; and whether its statement needs what is not built yet.
 pub record AttachmentState : Type 0 where
   pub who : ℕ
   pub name : ℕ
@@ -35,6 +38,47 @@ pub record AttachmentState : Type 0 where
   pub due : Option Due
   pub reply : Option Reply
   pub trap : Option Trap
+  pub is_unbuilt : Bool
+
+-- A desk of so many buffers that holds nothing, for a file of that shape.
+abbrev pub empty_desk : ℕ → Shape → DeskState
+empty_desk buffers shape = record {
+  cache = record { shape = shape; room = buffers; held = []; pairs = []; pointers = [] };
+  unsent = [];
+  is_spilled = false;
+  tips = [];
+  counted = 0;
+  written = 0;
+  notes = [];
+  deeds = [];
+  own = None;
+}
+
+-- An attachment that was given nothing yet.
+abbrev pub fresh : ℕ → ℕ → ℕ → Shape → AttachmentState
+fresh who name buffers shape = record {
+  who = who;
+  name = name;
+  buffers = buffers;
+  limit = shape.limit;
+  desk = empty_desk buffers shape;
+  statement = None;
+  polls = polls.Off;
+  is_called = false;
+  due = None;
+  reply = None;
+  trap = None;
+  is_unbuilt = false;
+}
+
+-- The statements that an attachment can do so far.
+abbrev pub is_built : Statement → Bool
+is_built statement.Attach = true
+is_built (statement.Begin wait) = true
+is_built (statement.Insert name text) = true
+is_built (statement.Read name row) = true
+is_built statement.Commit = true
+is_built _ = false
 
 -- The ask of a step that is due. What a note answers stands elsewhere.
 abbrev pub ask_of : Due → Ask
@@ -60,6 +104,10 @@ due_of _ = None
 abbrev pub IsBelow : ℕ → Option Due → Type 0
 IsBelow limit (Some (due.Write page cause)) = page < limit
 IsBelow limit _ = Unit {0}
+
+-- The bytes spell the page as it may be used.
+abbrev pub IsImage : CacheState → ℕ → List ℕ → Type 0
+IsImage c page bytes = IfSome (copy_in c.held page) (λ (copy : Page). IsSpelling c.shape copy bytes)
 
 -- Whether the step writes a transaction inventory page.
 abbrev pub is_tip : DeskState → Due → Bool

@@ -1,8 +1,8 @@
 //! One attachment: what it is given, the step that it takes next, and what it is answered.
 
-ghost use Rattle.std.specs.Prelude.{◌≡◌, ◌≤◌, IfOk, None, Some, OnErr, OnOk, false, is_some, length, true};
+ghost use Rattle.std.specs.Prelude.{◌≡◌, ◌≤◌, IfOk, Some, OnErr, OnOk, false, is_some, length, true};
 ghost use Rattle.fbc_kinds.specs.HeaderSpelling.{IsFileShape};
-ghost use Rattle.fbc_attachment.specs.Attachment.{IsAtRest, is_tip, step_bears};
+ghost use Rattle.fbc_attachment.specs.Attachment.{IsAtRest, fresh, is_tip, step_bears};
 
 use crate::bodies::Body;
 use crate::due::Due;
@@ -84,6 +84,7 @@ impl Model for Attachment {
       due = a.due;
       reply = a.reply;
       trap = a.trap;
+      is_unbuilt = a.is_unbuilt;
     } };
 
     ghost invariant = { λ a. IsBelow a.limit a.due };
@@ -104,13 +105,8 @@ impl Attachment {
         shape: Shape,
     ) -> Result<Attachment, AllocError>
         requires shape { IsFileShape shape }
-        ensures who { IfOk result (λ a. a.who ≡ who) }
-        ensures name { IfOk result (λ a. a.name ≡ name) }
-        ensures buffers { IfOk result (λ a. a.buffers ≡ buffers) }
-        ensures shape { IfOk result (λ a. a.desk.cache.shape ≡ shape) }
-        ensures limit { IfOk result (λ a. a.limit ≡ shape.limit) }
+        ensures fresh { IfOk result (λ a. a ≡ fresh who name buffers shape) }
         ensures rest { IfOk result (λ a. IsAtRest a) }
-        ensures trap { IfOk result (λ a. a.trap ≡ None) }
     {
         Ok(Attachment {
             alloc,
@@ -148,6 +144,7 @@ impl Attachment {
         ensures busy { OnErr result (is_some self.old.statement ≡ true) }
         ensures given { OnOk result (is_some self.old.statement ≡ false) }
         ensures same { OnErr result (self.new ≡ self.old) }
+        ensures desk { self.new.desk ≡ self.old.desk }
         ensures after { OnOk result (self.new ≡ record self.old { statement = Some statement }) }
     {
         if self.statement.is_some() {
@@ -166,7 +163,9 @@ impl Attachment {
 
     /// Whether its statement needs what is not built yet: a further page inventory, transaction inventory or pointer page. Then
     /// `take` has failed, and it goes on no more.
-    pub fn is_unbuilt(&self) -> bool {
+    pub fn is_unbuilt(&self) -> bool
+        ensures { result ≡ self.now.is_unbuilt }
+    {
         self.is_unbuilt
     }
 

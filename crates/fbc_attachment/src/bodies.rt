@@ -1,7 +1,8 @@
 //! The parts of statements, and how one comes to the next.
 #![tactic(auto, using(crate::proofs::Runs::run_steps))]
 
-ghost use Rattle.std.specs.Prelude.{◌<◌, IfSome};
+ghost use Rattle.std.specs.Prelude.{◌≡◌, ◌<◌, IfSome};
+ghost use Rattle.fbc_attachment.specs.Attachment as spec;
 ghost use Rattle.fbc_attachment.specs.Attachment.{IsSame};
 ghost use Rattle.fbc_attachment.specs.Running.{Runs};
 
@@ -86,7 +87,9 @@ impl Body {
 }
 
 /// Whether the statement is one that an attachment can do so far.
-pub fn is_built(statement: &Statement) -> bool {
+pub fn is_built(statement: &Statement) -> bool
+    ensures { result ≡ spec.is_built statement.now }
+{
     matches!(
         statement,
         Statement::Attach

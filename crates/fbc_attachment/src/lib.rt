@@ -6,16 +6,19 @@
 //! does so where it was called (`called`). Contracts see it as an `AttachmentState` (`specs/Attachment`).
 //!
 //! - **Proved**:
-//!   - `give` is Busy exactly where a statement is unanswered. `next` tells exactly what comes next (`moves`): Idle exactly where
-//!     no step is due, no statement is unanswered and it was not called since its last poll (`idle`); Die exactly where the step
-//!     that is due is the one that the trap names (`die`); else the answer, or the ask of that step. `next` and `bears` take no
-//!     memory.
+//!   - `give` is Busy exactly where a statement is unanswered, and leaves the desk. `next` tells exactly what comes next (`moves`):
+//!     Idle exactly where no step is due, no statement is unanswered and it was not called since its last poll (`idle`); Die exactly
+//!     where the step that is due is the one that the trap names (`die`); else the answer, or the ask of that step (`asked`,
+//!     `answered`). For a write the image spells the page as the desk has it (`spelled`). It leaves the desk, and `local` hands out
+//!     what that has not sent yet. `next` and `bears` take no memory.
 //!   - A page that `next` lets write is below the limit of the file, whatever the file holds (`below`).
 //!   - An answer is taken only where a step is due, with an image of the size of a page (`may`, `untaken`). The desk as it stood
 //!     then takes it, and what follows is a run of its calls in which transactions begin and are over (`runs`, by `specs/Behind`
 //!     and `specs/Running`). Bytes that spell no page are not taken, and after a write that failed the desk is left. Who the
 //!     attachment is stays, and its trap comes nearer by a step that bears its name (`same`).
-//!   - A callback on a page in use is not served (`kept`); any other is served by the next step that gives the page up (`due`).
+//!   - A callback on a page in use, or on one that is held in no higher level than may be kept, is passed over (`kept`); any other
+//!     is served by the next step that gives the page up (`due`).
+//!   - `is_built` tells which statements can be done so far.
 //!   - `refusal_of` tells whether a statement is refused by its own words, and how, in the order of the refusals
 //!     (`order`): each comes exactly where it is said to (`no_relation`, `no_transaction`, `already_open`,
 //!     `too_long`). `relation_number` gives the number of a relation, which is its place among the

@@ -1,10 +1,14 @@
 //! What an attachment does next.
 
-ghost use Rattle.std.specs.Prelude.{◌≡◌, ◌↔◌, ◌<◌, ℕ, None, length, true};
+ghost use Rattle.std.specs.Prelude.{◌≡◌, ◌↔◌, ◌<◌, ℕ, None, Some, length, true};
+ghost use Rattle.std.specs.Option.{option_map};
+ghost use Rattle.fbc_kinds.specs.declared.replies.Reply.{Reply as AReply};
+ghost use Rattle.fbc_world.specs.declared.asks.Ask.{Ask as AnAsk};
 ghost use Rattle.fbc_world.specs.declared.asks.Ask.TheVariants as asks;
 ghost use Rattle.fbc_world.specs.declared.asks.Cause.{Cause as ACause};
 ghost use Rattle.fbc_attachment.specs.declared.attachment.Move.TheVariants as moves;
-ghost use Rattle.fbc_attachment.specs.Attachment.{IsAtRest, after_move, is_trapped, move_next, polling, reply_told, roused};
+ghost use Rattle.fbc_attachment.specs.declared.due.Due.TheVariants as dues;
+ghost use Rattle.fbc_attachment.specs.Attachment.{IsAtRest, IsImage, after_move, ask_of, is_trapped, move_next, polling, reply_told, roused};
 
 use crate::attachment::{Attachment, Move};
 use crate::due::Due;
@@ -19,8 +23,13 @@ impl Attachment {
         ensures moves { result ≡ move_next self.old }
         ensures idle { (result ≡ moves.Idle) ↔ IsAtRest self.old }
         ensures die { (result ≡ moves.Die) ↔ (is_trapped (roused self.old) ≡ true) }
+        ensures asked { (asked : AnAsk) → result ≡ moves.Ask asked → option_map ask_of self.new.due ≡ Some asked }
+        ensures answered { (told : AReply) → result ≡ moves.Answered told → self.new.due ≡ Some dues.Note }
         ensures below { (page : ℕ) (cause : ACause) → result ≡ moves.Ask (asks.Write page cause) → page < self.old.limit }
+        ensures spelled { (page : ℕ) (cause : ACause) → result ≡ moves.Ask (asks.Write page cause)
+            → length image.old ≡ self.old.desk.cache.shape.size → IsImage self.old.desk.cache page image.new }
         ensures after { self.new ≡ after_move result (roused self.old) }
+        ensures desk { self.new.desk ≡ self.old.desk }
         ensures image { length image.new ≡ length image.old }
     {
         self.rouse();
@@ -43,7 +52,8 @@ impl Attachment {
 
     /// Where nothing is due, a statement that was given begins, or an idle attachment that was called asks for a callback.
     fn rouse(&mut self)
-        ensures { self.new ≡ roused self.old }
+        ensures after { self.new ≡ roused self.old }
+        ensures desk { self.new.desk ≡ self.old.desk }
     {
         if self.due.is_some() {
             return;
@@ -92,7 +102,8 @@ impl Attachment {
 
     /// The bytes of the page, in an image of its size.
     fn spell(&self, page: u32, image: &mut [u8])
-        ensures { length image.new ≡ length image.old }
+        ensures spelled { length image.old ≡ self.now.desk.cache.shape.size → IsImage self.now.desk.cache page image.new }
+        ensures length { length image.new ≡ length image.old }
     {
         let cache = self.desk.cache();
         if cache.has_copy(page) && image.len() == cache.page_size() as usize {

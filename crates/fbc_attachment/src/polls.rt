@@ -1,11 +1,11 @@
 //! Moments at which an attachment asks whether somebody waits for one of its pages, and serves who does.
 #![tactic(auto, using(crate::proofs::Runs::run_steps))]
 
-ghost use Rattle.std.specs.Prelude.{◌≡◌, IfSome, None, true};
+ghost use Rattle.std.specs.Prelude.{◌≡◌, IfSome, is_none};
 ghost use Rattle.fbc_world.specs.declared.asks.Cause.TheVariants as causes;
-ghost use Rattle.fbc_cache.specs.Cache.{is_pinned_in};
 ghost use Rattle.fbc_cache.specs.Giving.{GivesUp};
 ghost use Rattle.fbc_attachment.specs.Attachment.{IsSame};
+ghost use Rattle.fbc_attachment.specs.Passing.{is_above, is_passed_over};
 ghost use Rattle.fbc_attachment.specs.Running.{Runs};
 
 use crate::attachment::Attachment;
@@ -70,7 +70,7 @@ impl Attachment {
     fn step_to_serve(&mut self, callback: Callback) -> Option<Ask>
         ensures same { IsSame self.old self.new }
         ensures runs { Runs self.old.desk self.new.desk }
-        ensures kept { is_pinned_in self.old.desk.cache.held callback.page ≡ true → result ≡ None }
+        ensures kept { is_none result ≡ is_passed_over self.old.desk.cache callback }
         ensures due { IfSome result (GivesUp self.old.desk.cache callback.page (causes.CallbackOf callback.asker) callback.keep) }
     {
         if self.desk.cache().pinned(callback.page) {
@@ -92,6 +92,8 @@ impl Attachment {
 }
 
 /// Whether the first level gives more than the second.
-fn is_above(level: Level, keep: Level) -> bool {
+fn is_above(level: Level, keep: Level) -> bool
+    ensures { result ≡ is_above level keep }
+{
     number(level) > number(keep)
 }
