@@ -9,6 +9,7 @@ use Rattle.fbc_rows.specs.Damages.{Damages, EmptyDamages}
 use Rattle.fbc_rows.specs.Gathering.{EmptyEnds}
 use Rattle.fbc_rows.specs.Inserting.{IsBetween, Leaves}
 use Rattle.fbc_rows.specs.Missing.{EmptyMisses, Misses}
+use Rattle.fbc_rows.specs.Writes.{Writes}
 
 pub between-empty : (stopped : Empty) (found : Option RowStep) → EmptyEnds stopped found → IfSome found IsBetween
 between-empty (empty.At sequence) found is = subst (λ (f : Option RowStep). IfSome f IsBetween) (sym is) tt
@@ -29,3 +30,8 @@ pub damages-empty : (d : DeskState) (relation : ℕ) (stopped : Empty) (found : 
 damages-empty d relation (empty.At sequence) found is damages = subst (λ (f : Option RowStep). IfSome f (Damages d relation)) (sym is) tt
 damages-empty d relation (empty.Miss need) found is damages = subst (λ (f : Option RowStep). IfSome f (Damages d relation)) (sym is) tt
 damages-empty d relation (empty.Damaged page broken) found is damages = subst (λ (f : Option RowStep). IfSome f (Damages d relation)) (sym is) damages
+
+pub writes-empty : (d : DeskState) (stopped : Empty) (found : Option RowStep) → EmptyEnds stopped found → IfSome found (Writes d)
+writes-empty d (empty.At sequence) found is = subst (λ (f : Option RowStep). IfSome f (Writes d)) (sym is) tt
+writes-empty d (empty.Miss need) found is = subst (λ (f : Option RowStep). IfSome f (Writes d)) (sym is) tt
+writes-empty d (empty.Damaged page broken) found is = subst (λ (f : Option RowStep). IfSome f (Writes d)) (sym is) tt

@@ -3,3 +3,4 @@ mod Ends
 mod Missed
 mod Steps
 mod Ways
+mod Written

@@ -8,3 +8,4 @@ pub mod Parts
 pub mod Putting
 pub mod Searching
 pub mod Slots
+pub mod Writes

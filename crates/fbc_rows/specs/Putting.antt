@@ -4,10 +4,7 @@ use Rattle.fbc_kinds.specs.declared.edits.Edit.{Edit}
 use Rattle.fbc_kinds.specs.declared.edits.Edit.TheVariants as edit
 use Rattle.fbc_kinds.specs.declared.pages.Flag.TheVariants as flag
 use Rattle.fbc_kinds.specs.declared.shapes.Shape.{Shape}
-use Rattle.fbc_world.specs.declared.asks.Ask.{Ask}
-use Rattle.fbc_world.specs.declared.asks.Cause.TheVariants as cause
 use Rattle.fbc_cache.specs.Cache.{CacheState, copy_in}
-use Rattle.fbc_cache.specs.Giving.{IsWriteFor}
 use Rattle.fbc_cache.specs.Readers.{place, place_in}
 use Rattle.fbc_desk.specs.declared.edits.Made.TheVariants as made
 use Rattle.fbc_desk.specs.Calls.{EditComesTo, UnpinsAll}
@@ -16,6 +13,7 @@ use Rattle.fbc_desk.specs.Roles.{misplaced}
 use Rattle.fbc_chains.specs.Places.{row_cells}
 use Rattle.fbc_rows.specs.declared.parts.RowStep.{RowStep}
 use Rattle.fbc_rows.specs.declared.parts.RowStep.TheVariants as step
+use Rattle.fbc_rows.specs.Writes.{WritesFirst}
 
 -- The number of the row in the cell of the relation's data page of the sequence.
 abbrev pub row_at : Shape → ℕ → ℕ → ℕ → ℕ
@@ -49,13 +47,6 @@ pub record PutsRow (before : DeskState) (relation number : ℕ) (value : List �
   pub unpins : UnpinsAll between after
   pub placed : IsPlaced before.cache relation sequence page
   pub is_row : row ≡ row_at before.cache.shape relation sequence cell
-
--- Another page is to be written first: that page's next write is asked.
-pub record WritesFirst (before : DeskState) (page : ℕ) (made_by : Edit) (highs : List ℕ) (asked : Ask) (after : DeskState) : Type 0 where
-  pub edited : ℕ
-  pub high : ℕ
-  pub halts : EditComesTo before after page made_by highs (made.WriteFirst edited high)
-  pub is_write : IsWriteFor after.cache.pairs edited (cause.Cycle high) asked
 
 -- What it comes to.
 abbrev pub PutComesTo : DeskState → ℕ → ℕ → List ℕ → ℕ → ℕ → ℕ → DeskState → RowStep → Type 0

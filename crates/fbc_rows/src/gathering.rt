@@ -9,6 +9,7 @@ ghost use Rattle.fbc_cache.specs.Remembered.{pointers_of};
 ghost use Rattle.fbc_desk.specs.Calls.{GoesOn};
 ghost use Rattle.fbc_chains.specs.Showing.{shown_by};
 ghost use Rattle.fbc_rows.specs.Gathering.{AreFull, EmptyEnds, FindsEmpty, FirstEmpty, LooksForEmpty};
+ghost use Rattle.fbc_rows.specs.Writes.{Writes};
 
 use crate::needs::{leave_all, look_at_header, look_at_pointer, pointer_at, to_get};
 use crate::parts::{InsertPart, NewPage, RowStep, Stage};
@@ -44,6 +45,7 @@ pub(crate) fn find_slot(
     ensures between { IfSome result IsBetween }
     ensures leaves { IfSome result (Leaves desk.new part.new) }
     ensures misses { IfSome result (Misses desk.new) }
+    ensures writes { IfSome result (Writes desk.new) }
     ensures damages { IfSome result (Damages desk.new relation) }
     ensures goes { GoesOn desk.old desk.new }
 {
@@ -148,6 +150,7 @@ pub(crate) fn look_for_pointers(
     ensures between { IsBetween result }
     ensures leaves { Leaves desk.new part.new result }
     ensures misses { Misses desk.new result }
+    ensures writes { Writes desk.new result }
     ensures damages { Damages desk.new relation result }
     ensures goes { GoesOn desk.old desk.new }
 {
@@ -163,6 +166,7 @@ fn look_past_pointers(part: &mut InsertPart, desk: &mut Desk, relation: u8, know
     ensures between { IsBetween result }
     ensures leaves { Leaves desk.new part.new result }
     ensures misses { Misses desk.new result }
+    ensures writes { Writes desk.new result }
     ensures damages { Damages desk.new relation result }
     ensures goes { GoesOn desk.old desk.new }
 {
@@ -187,6 +191,7 @@ fn go_on(part: &mut InsertPart, desk: &mut Desk) -> RowStep
     ensures between { IsBetween result }
     ensures leaves { Leaves desk.new part.new result }
     ensures misses { Misses desk.new result }
+    ensures writes { Writes desk.new result }
     ensures damages { (relation : ℕ) → Damages desk.new relation result }
     ensures goes { GoesOn desk.old desk.new }
 {
@@ -200,6 +205,7 @@ fn begin_last(part: &mut InsertPart, desk: &mut Desk, pages: u32) -> RowStep
     ensures between { IsBetween result }
     ensures leaves { Leaves desk.new part.new result }
     ensures misses { Misses desk.new result }
+    ensures writes { Writes desk.new result }
     ensures damages { (relation : ℕ) → Damages desk.new relation result }
     ensures goes { GoesOn desk.old desk.new }
 {
@@ -218,6 +224,7 @@ pub(crate) fn find_page(
     ensures between { IfSome result IsBetween }
     ensures leaves { IfSome result (Leaves desk.new part.new) }
     ensures misses { IfSome result (Misses desk.new) }
+    ensures writes { IfSome result (Writes desk.new) }
     ensures damages { (relation : ℕ) → IfSome result (Damages desk.new relation) }
     ensures goes { GoesOn desk.old desk.new }
 {
@@ -253,6 +260,7 @@ pub(crate) fn get_page(part: &mut InsertPart, desk: &Desk, new: NewPage) -> Opti
     ensures between { IfSome result IsBetween }
     ensures leaves { IfSome result (Leaves desk.now part.new) }
     ensures misses { IfSome result (Misses desk.now) }
+    ensures writes { IfSome result (Writes desk.now) }
     ensures damages { (relation : ℕ) → IfSome result (Damages desk.now relation) }
 {
     let need = to_get(new.page);

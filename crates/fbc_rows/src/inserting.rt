@@ -10,6 +10,7 @@ ghost use Rattle.fbc_rows.specs.Damages.{Damages, StopDamages};
 ghost use Rattle.fbc_rows.specs.Missing.{Misses, StopMisses};
 ghost use Rattle.fbc_rows.specs.Parts.{is_searching};
 ghost use Rattle.fbc_rows.specs.Searching.{ArePassed, SearchStops};
+ghost use Rattle.fbc_rows.specs.Writes.{Writes};
 
 use crate::gathering::{find_page, find_slot, get_page, look_for_pointers};
 use crate::making::{name_page, take_page, use_page, use_pointer};
@@ -41,6 +42,7 @@ pub fn try_insert(
     ensures searches { is_searching part.old.stage ≡ true → IfOk result (Searches (shown_by desk.old.cache) relation part.old.at part.new) }
     ensures leaves { IfOk result (Leaves desk.new part.new) }
     ensures misses { IfOk result (Misses desk.new) }
+    ensures writes { IfOk result (Writes desk.new) }
     ensures damages { IfOk result (Damages desk.new relation) }
     ensures goes { GoesOn desk.old desk.new }
     ensures err { OnErr result (place.new ≡ place.old) }
@@ -67,6 +69,7 @@ fn put(
     ensures ends { IfOk result IsAtEnd }
     ensures leaves { IfOk result (Leaves desk.new part.now) }
     ensures misses { IfOk result (Misses desk.new) }
+    ensures writes { IfOk result (Writes desk.new) }
     ensures damages { IfOk result (Damages desk.new relation) }
     ensures goes { GoesOn desk.old desk.new }
     ensures err { OnErr result (place.new ≡ place.old) }
@@ -101,6 +104,7 @@ fn find_room(part: &mut InsertPart, desk: &mut Desk, relation: u8, place: u32) -
     ensures leaves { IfSome result (Leaves desk.new part.new) }
     ensures searches { is_searching part.old.stage ≡ true → SearchesFirst (shown_by desk.old.cache) relation part.old.at part.new result }
     ensures misses { IfSome result (Misses desk.new) }
+    ensures writes { IfSome result (Writes desk.new) }
     ensures damages { IfSome result (Damages desk.new relation) }
     ensures goes { GoesOn desk.old desk.new }
 {
@@ -122,6 +126,7 @@ fn find_cell(part: &mut InsertPart, desk: &mut Desk, relation: u8, place: u32) -
     ensures before { IfSome result (IsBefore (shown_by desk.old.cache) relation part.old) }
     ensures leaves { IfSome result (Leaves desk.new part.new) }
     ensures misses { IfSome result (Misses desk.new) }
+    ensures writes { IfSome result (Writes desk.new) }
     ensures damages { IfSome result (Damages desk.new relation) }
     ensures goes { GoesOn desk.old desk.new }
 {
@@ -145,6 +150,7 @@ fn end_search(
         → FindsCell s relation from part.old.last part.new result }
     ensures leaves { IfSome result (Leaves desk.new part.new) }
     ensures misses { IfSome found (StopMisses desk.old) → IfSome result (Misses desk.new) }
+    ensures writes { IfSome result (Writes desk.new) }
     ensures damages { IfSome found (StopDamages desk.old relation) → IfSome result (Damages desk.new relation) }
     ensures goes { GoesOn desk.old desk.new }
 {
@@ -172,6 +178,7 @@ fn end_at(
         → FindsCell s relation from part.old.last part.new result }
     ensures leaves { IfSome result (Leaves desk.new part.new) }
     ensures misses { StopMisses desk.old stop → IfSome result (Misses desk.new) }
+    ensures writes { IfSome result (Writes desk.new) }
     ensures damages { StopDamages desk.old relation stop → IfSome result (Damages desk.new relation) }
     ensures goes { GoesOn desk.old desk.new }
 {
@@ -195,6 +202,7 @@ fn search_anew(part: &mut InsertPart, desk: &mut Desk, place: u32) -> RowStep
     ensures again { result ≡ steps.Again }
     ensures leaves { Leaves desk.new part.new result }
     ensures misses { Misses desk.new result }
+    ensures writes { Writes desk.new result }
     ensures goes { GoesOn desk.old desk.new }
 {
     part.go_back(place);
@@ -212,6 +220,7 @@ fn find_empty_slot(
     ensures between { IfSome result IsBetween }
     ensures leaves { IfSome result (Leaves desk.new part.new) }
     ensures misses { IfSome result (Misses desk.new) }
+    ensures writes { IfSome result (Writes desk.new) }
     ensures damages { IfSome result (Damages desk.new relation) }
     ensures goes { GoesOn desk.old desk.new }
 {
@@ -226,6 +235,7 @@ fn look_past_slots(part: &mut InsertPart, desk: &mut Desk, relation: u8) -> Opti
     ensures between { IfSome result IsBetween }
     ensures leaves { IfSome result (Leaves desk.new part.new) }
     ensures misses { IfSome result (Misses desk.new) }
+    ensures writes { IfSome result (Writes desk.new) }
     ensures damages { IfSome result (Damages desk.new relation) }
     ensures goes { GoesOn desk.old desk.new }
 {
@@ -240,6 +250,7 @@ fn find_free_page(part: &mut InsertPart, desk: &mut Desk) -> Option<RowStep>
     ensures between { IfSome result IsBetween }
     ensures leaves { IfSome result (Leaves desk.new part.new) }
     ensures misses { IfSome result (Misses desk.new) }
+    ensures writes { IfSome result (Writes desk.new) }
     ensures damages { (relation : ℕ) → IfSome result (Damages desk.new relation) }
     ensures goes { GoesOn desk.old desk.new }
 {
@@ -257,6 +268,7 @@ fn look_for_page(part: &mut InsertPart, desk: &mut Desk) -> Option<RowStep>
     ensures between { IfSome result IsBetween }
     ensures leaves { IfSome result (Leaves desk.new part.new) }
     ensures misses { IfSome result (Misses desk.new) }
+    ensures writes { IfSome result (Writes desk.new) }
     ensures damages { (relation : ℕ) → IfSome result (Damages desk.new relation) }
     ensures goes { GoesOn desk.old desk.new }
 {
@@ -275,6 +287,7 @@ fn make_page(
     ensures between { IfOk result (λ done. IfSome done IsBetween) }
     ensures leaves { IfOk result (λ done. IfSome done (Leaves desk.new part.new)) }
     ensures misses { IfOk result (λ done. IfSome done (Misses desk.new)) }
+    ensures writes { IfOk result (λ done. IfSome done (Writes desk.new)) }
     ensures damages { IfOk result (λ done. IfSome done (Damages desk.new relation)) }
     ensures goes { GoesOn desk.old desk.new }
 {
@@ -295,6 +308,7 @@ fn use_pages(part: &mut InsertPart, desk: &mut Desk, relation: u8) -> Option<Row
     ensures between { IfSome result IsBetween }
     ensures leaves { IfSome result (Leaves desk.new part.new) }
     ensures misses { IfSome result (Misses desk.new) }
+    ensures writes { IfSome result (Writes desk.new) }
     ensures damages { IfSome result (Damages desk.new relation) }
     ensures goes { GoesOn desk.old desk.new }
 {
@@ -312,6 +326,7 @@ fn use_slot(part: &mut InsertPart, desk: &mut Desk, relation: u8) -> Option<RowS
     ensures between { IfSome result IsBetween }
     ensures leaves { IfSome result (Leaves desk.new part.new) }
     ensures misses { IfSome result (Misses desk.new) }
+    ensures writes { IfSome result (Writes desk.new) }
     ensures damages { IfSome result (Damages desk.new relation) }
     ensures goes { GoesOn desk.old desk.new }
 {
@@ -326,6 +341,7 @@ fn take(part: &mut InsertPart, desk: &mut Desk, relation: u8) -> Result<Option<R
     ensures between { IfOk result (λ done. IfSome done IsBetween) }
     ensures leaves { IfOk result (λ done. IfSome done (Leaves desk.new part.new)) }
     ensures misses { IfOk result (λ done. IfSome done (Misses desk.new)) }
+    ensures writes { IfOk result (λ done. IfSome done (Writes desk.new)) }
     ensures damages { IfOk result (λ done. IfSome done (Damages desk.new relation)) }
     ensures goes { GoesOn desk.old desk.new }
 {

@@ -19,6 +19,8 @@
 //!     lies past those that the file may have; where the header, a pointer page or a page inventory stands elsewhere than is
 //!     due; where it is a data page that broke a rule and is named still; or where it is in use and is shown as free
 //!     (`damages`).
+//!   - A write is asked where an edit may be made but waits for a high page: it is the next write in order, of the edited
+//!     page or one before it, and its cause is that high page (`writes`).
 //!   - Behind a row that is put no page is in use, and neither is one where the part begins again, which then stands at its
 //!     first line (`leaves`).
 //!   - What is done between two steps is a run of the desk's calls (`goes`), and it ends.

@@ -9,6 +9,7 @@ ghost use Rattle.fbc_rows.specs.Inserting.{IsBetween, Leaves};
 ghost use Rattle.fbc_cache.specs.Giving.{IsWriteFor};
 ghost use Rattle.fbc_desk.specs.Calls.{GoesOn};
 ghost use Rattle.fbc_world.specs.declared.asks.Cause.TheVariants as causes;
+ghost use Rattle.fbc_rows.specs.Writes.{Writes};
 
 use crate::needs::{hold_pointer, leave_all, pointer_at};
 use crate::parts::{InsertPart, NewPage, RowStep, Stage};
@@ -30,6 +31,7 @@ pub(crate) fn use_pointer(
     ensures between { IfSome result IsBetween }
     ensures leaves { IfSome result (Leaves desk.new part.new) }
     ensures misses { IfSome result (Misses desk.new) }
+    ensures writes { IfSome result (Writes desk.new) }
     ensures damages { IfSome result (Damages desk.new relation) }
     ensures goes { GoesOn desk.old desk.new }
 {
@@ -51,6 +53,7 @@ fn go_on_if_empty(
     ensures between { IfSome result IsBetween }
     ensures leaves { IfSome result (Leaves desk.new part.new) }
     ensures misses { IfSome result (Misses desk.new) }
+    ensures writes { IfSome result (Writes desk.new) }
     ensures damages { IfSome result (Damages desk.new relation) }
     ensures goes { GoesOn desk.old desk.new }
 {
@@ -66,6 +69,7 @@ fn begin_again(part: &mut InsertPart, desk: &mut Desk) -> RowStep
     ensures between { IsBetween result }
     ensures leaves { Leaves desk.new part.new result }
     ensures misses { Misses desk.new result }
+    ensures writes { Writes desk.new result }
     ensures damages { (relation : ℕ) → Damages desk.new relation result }
     ensures goes { GoesOn desk.old desk.new }
 {
@@ -79,6 +83,7 @@ pub(crate) fn use_page(part: &mut InsertPart, desk: &mut Desk, new: NewPage) -> 
     ensures between { IfSome result IsBetween }
     ensures leaves { IfSome result (Leaves desk.new part.new) }
     ensures misses { IfSome result (Misses desk.new) }
+    ensures writes { IfSome result (Writes desk.new) }
     ensures damages { (relation : ℕ) → IfSome result (Damages desk.new relation) }
     ensures goes { GoesOn desk.old desk.new }
 {
@@ -116,6 +121,7 @@ pub(crate) fn take_page(
     ensures between { IfOk result (λ done. IfSome done IsBetween) }
     ensures leaves { IfOk result (λ done. IfSome done (Leaves desk.new part.new)) }
     ensures misses { IfOk result (λ done. IfSome done (Misses desk.new)) }
+    ensures writes { IfOk result (λ done. IfSome done (Writes desk.new)) }
     ensures damages { IfOk result (λ done. IfSome done (Damages desk.new relation)) }
     ensures goes { GoesOn desk.old desk.new }
 {
@@ -142,6 +148,7 @@ pub(crate) fn name_page(
     ensures between { IfOk result (λ done. IfSome done IsBetween) }
     ensures leaves { IfOk result (λ done. IfSome done (Leaves desk.new part.new)) }
     ensures misses { IfOk result (λ done. IfSome done (Misses desk.new)) }
+    ensures writes { IfOk result (λ done. IfSome done (Writes desk.new)) }
     ensures damages { IfOk result (λ done. IfSome done (Damages desk.new relation)) }
     ensures goes { GoesOn desk.old desk.new }
 {

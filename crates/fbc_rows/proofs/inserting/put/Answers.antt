@@ -3,6 +3,7 @@ use Rattle.std.proofs.Common.{ℕ, refl, sym, subst}
 use Rattle.fbc_desk.specs.Calls.{stays}
 use Rattle.fbc_rows.specs.Inserting.{InsertComesTo}
 use Rattle.fbc_rows.proofs.Steps.{puts-come, puts-leave}
+use Rattle.fbc_rows.proofs.Written.{put-writes}
 use Rattle.fbc_rows.proofs.inserting.put.Goals as goal
 
 pub returns-in_ok-step-in-Put-clause-comes : goal.returns-in_ok-step-in-Put-clause-comes
@@ -11,8 +12,12 @@ returns-in_ok-step-in-Put-clause-comes c =
     (puts-come c.args.desk.now c.args.relation c.args.number c.args.value c.in-Put.page c.in-Put.sequence c.in-Put.cell c.args.place.now c.put_row.new.desk c.in_ok-step-in-Put.step c.in_ok-step-in-Put.ensures.puts)
 
 pub returns-in_default : goal.returns-in_default
-returns-in_default c = record { comes = refl; ends = tt; leaves = tt; misses = tt; damages = tt; goes = stays c.args.desk.now; err = tt }
+returns-in_default c = record { comes = refl; ends = tt; leaves = tt; misses = tt; writes = tt; damages = tt; goes = stays c.args.desk.now; err = tt }
 
 pub returns-in_ok-step-in-Put-clause-leaves : goal.returns-in_ok-step-in-Put-clause-leaves
 returns-in_ok-step-in-Put-clause-leaves c =
     puts-leave c.args.desk.now c.args.relation c.args.number c.args.value c.in-Put.page c.in-Put.sequence c.in-Put.cell c.put_row.new.desk c.args.part.now c.in_ok-step-in-Put.step c.in_ok-step-in-Put.ensures.puts
+
+pub returns-in_ok-step-in-Put-clause-writes : goal.returns-in_ok-step-in-Put-clause-writes
+returns-in_ok-step-in-Put-clause-writes c =
+    put-writes c.args.desk.now c.args.relation c.args.number c.args.value c.in-Put.page c.in-Put.sequence c.in-Put.cell c.put_row.new.desk c.in_ok-step-in-Put.step c.in_ok-step-in-Put.ensures.puts
