@@ -4,3 +4,4 @@ mod Missed
 mod Steps
 mod Ways
 mod Written
+mod Remembered

@@ -4,9 +4,10 @@
 ghost use Rattle.std.specs.Prelude.{◌≡◌, ℕ, IfOk, IfSome, OnErr, Some, true};
 ghost use Rattle.fbc_desk.specs.Calls.{GoesOn};
 ghost use Rattle.fbc_chains.specs.Showing.{Showing, shown_by};
+ghost use Rattle.fbc_rows.specs.declared.parts.InsertPart.{InsertPart as APart};
 ghost use Rattle.fbc_rows.specs.declared.parts.RowStep.TheVariants as steps;
 ghost use Rattle.fbc_rows.specs.Inserting.{FindsCell, InsertComesTo, IsAtEnd, IsBefore, IsBetween, Leaves, LimitComes, Searches, SearchesFirst, place_after};
-ghost use Rattle.fbc_rows.specs.Damages.{Damages, StopDamages};
+ghost use Rattle.fbc_rows.specs.Damages.{Damages, InsertDamages, SearchDamages};
 ghost use Rattle.fbc_rows.specs.Missing.{Misses, StopMisses};
 ghost use Rattle.fbc_rows.specs.Parts.{is_searching};
 ghost use Rattle.fbc_rows.specs.Searching.{ArePassed, SearchStops};
@@ -43,7 +44,7 @@ pub fn try_insert(
     ensures leaves { IfOk result (Leaves desk.new part.new) }
     ensures misses { IfOk result (Misses desk.new) }
     ensures writes { IfOk result (Writes desk.new) }
-    ensures damages { IfOk result (Damages desk.new relation) }
+    ensures damages { IfOk result (InsertDamages desk.new relation part.old) }
     ensures goes { GoesOn desk.old desk.new }
     ensures err { OnErr result (place.new ≡ place.old) }
 {
@@ -105,7 +106,7 @@ fn find_room(part: &mut InsertPart, desk: &mut Desk, relation: u8, place: u32) -
     ensures searches { is_searching part.old.stage ≡ true → SearchesFirst (shown_by desk.old.cache) relation part.old.at part.new result }
     ensures misses { IfSome result (Misses desk.new) }
     ensures writes { IfSome result (Writes desk.new) }
-    ensures damages { IfSome result (Damages desk.new relation) }
+    ensures damages { IfSome result (InsertDamages desk.new relation part.old) }
     ensures goes { GoesOn desk.old desk.new }
 {
     if let Some(step) = find_cell(part, desk, relation, place) {
@@ -127,7 +128,7 @@ fn find_cell(part: &mut InsertPart, desk: &mut Desk, relation: u8, place: u32) -
     ensures leaves { IfSome result (Leaves desk.new part.new) }
     ensures misses { IfSome result (Misses desk.new) }
     ensures writes { IfSome result (Writes desk.new) }
-    ensures damages { IfSome result (Damages desk.new relation) }
+    ensures damages { IfSome result (InsertDamages desk.new relation part.old) }
     ensures goes { GoesOn desk.old desk.new }
 {
     if !part.is_searching() {
@@ -151,7 +152,7 @@ fn end_search(
     ensures leaves { IfSome result (Leaves desk.new part.new) }
     ensures misses { IfSome found (StopMisses desk.old) → IfSome result (Misses desk.new) }
     ensures writes { IfSome result (Writes desk.new) }
-    ensures damages { IfSome found (StopDamages desk.old relation) → IfSome result (Damages desk.new relation) }
+    ensures damages { (from : APart) → IfSome found (SearchDamages desk.old relation from) → IfSome result (InsertDamages desk.new relation from) }
     ensures goes { GoesOn desk.old desk.new }
 {
     match found {
@@ -179,7 +180,7 @@ fn end_at(
     ensures leaves { IfSome result (Leaves desk.new part.new) }
     ensures misses { StopMisses desk.old stop → IfSome result (Misses desk.new) }
     ensures writes { IfSome result (Writes desk.new) }
-    ensures damages { StopDamages desk.old relation stop → IfSome result (Damages desk.new relation) }
+    ensures damages { (from : APart) → SearchDamages desk.old relation from stop → IfSome result (InsertDamages desk.new relation from) }
     ensures goes { GoesOn desk.old desk.new }
 {
     match stop {

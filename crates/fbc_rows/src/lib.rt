@@ -16,9 +16,9 @@
 //!     slot names no page, or names the relation's data page of the sequence, which is at hand and has no empty cell.
 //!   - The limit comes in the last pass alone, when all sequences from where the part stood are passed over (`limit`).
 //!   - A page is missed where the file may have it and it may not be used yet (`misses`). A page is called damaged where it
-//!     lies past those that the file may have; where the header, a pointer page or a page inventory stands elsewhere than is
-//!     due; where it is a data page that broke a rule and is named still; or where it is in use and is shown as free
-//!     (`damages`).
+//!     lies past those that the file may have; where the header, a pointer page, a page inventory, or a page that a slot
+//!     names stands elsewhere than is due, by the first rule that it breaks so; where the part remembers that it broke
+//!     this rule when it was used, and it is named still; or where it is in use and is shown as free (`damages`).
 //!   - A write is asked where an edit may be made but waits for a high page: it is the next write in order, of the edited
 //!     page or one before it, and its cause is that high page (`writes`).
 //!   - Behind a row that is put no page is in use, and neither is one where the part begins again, which then stands at its

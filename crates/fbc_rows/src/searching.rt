@@ -1,12 +1,13 @@
 //! The search for an empty cell in the data pages that the relation has.
 #![tactic(auto, using(fbc_desk::proofs::Goes::goes_on))]
 
-ghost use Rattle.std.specs.Prelude.{◌≡◌, IfSome};
+ghost use Rattle.std.specs.Prelude.{◌≡◌, IfSome, Option};
 ghost use Rattle.fbc_cache.specs.Readers.{place, place_in};
 ghost use Rattle.fbc_desk.specs.Calls.{GoesOn};
 ghost use Rattle.fbc_desk.specs.Roles.{misplaced};
 ghost use Rattle.fbc_chains.specs.Showing.{shown_by};
-ghost use Rattle.fbc_rows.specs.Damages.{StopDamages};
+ghost use Rattle.fbc_kinds.specs.declared.rules.Rule.{Rule as ARule};
+ghost use Rattle.fbc_rows.specs.Damages.{NamedDamages, SearchDamages, StopDamages};
 ghost use Rattle.fbc_rows.specs.Missing.{StopMisses};
 ghost use Rattle.fbc_rows.specs.Searching.{ArePassed, IsNamedHere, LooksOver, SearchStops, sequences};
 ghost use Rattle.fbc_rows.specs.Slots.{Names};
@@ -40,7 +41,7 @@ pub(crate) fn search(part: &mut InsertPart, desk: &mut Desk, relation: u8) -> Op
     ensures rest { part.new ≡ record part.old { at = part.new.at; stage = part.new.stage } }
     ensures same { shown_by desk.new.cache ≡ shown_by desk.old.cache }
     ensures misses { IfSome result (StopMisses desk.new) }
-    ensures damages { IfSome result (StopDamages desk.new relation) }
+    ensures damages { IfSome result (SearchDamages desk.new relation part.old) }
     ensures goes { GoesOn desk.old desk.new }
 {
     let end = sequences(desk, relation);
@@ -68,7 +69,7 @@ fn look(part: &mut InsertPart, desk: &mut Desk, relation: u8) -> Option<Stop>
     ensures rest { part.new ≡ record part.old { stage = part.new.stage } }
     ensures same { shown_by desk.new.cache ≡ shown_by desk.old.cache }
     ensures misses { IfSome result (StopMisses desk.new) }
-    ensures damages { IfSome result (StopDamages desk.new relation) }
+    ensures damages { IfSome result (SearchDamages desk.new relation part.old) }
     ensures goes { GoesOn desk.old desk.new }
 {
     match part.stage {
@@ -162,7 +163,7 @@ fn look_at_name(
     ensures passes { LooksOver (shown_by desk.old.cache) relation sequence result }
     ensures same { shown_by desk.new.cache ≡ shown_by desk.old.cache }
     ensures misses { IfSome result (StopMisses desk.new) }
-    ensures damages { IfSome result (StopDamages desk.new relation) }
+    ensures damages { IfSome result (NamedDamages desk.new relation sequence page broken) }
     ensures goes { GoesOn desk.old desk.new }
 {
     match look_at_slot(desk, relation, sequence) {
@@ -190,7 +191,7 @@ fn look_at_named(
     ensures passes { LooksOver (shown_by desk.old.cache) relation sequence result }
     ensures same { shown_by desk.new.cache ≡ shown_by desk.old.cache }
     ensures misses { IfSome result (StopMisses desk.new) }
-    ensures damages { IfSome result (StopDamages desk.new relation) }
+    ensures damages { IfSome result (NamedDamages desk.new relation sequence page broken) }
     ensures goes { GoesOn desk.old desk.new }
 {
     if let Some(rule) = broken {
@@ -208,7 +209,7 @@ fn look_for_cell(desk: &mut Desk, relation: u8, sequence: u32, page: u32) -> Opt
     ensures passes { LooksOver (shown_by desk.old.cache) relation sequence result }
     ensures same { shown_by desk.new.cache ≡ shown_by desk.old.cache }
     ensures misses { IfSome result (StopMisses desk.new) }
-    ensures damages { IfSome result (StopDamages desk.new relation) }
+    ensures damages { (kept : Option ARule) → IfSome result (NamedDamages desk.new relation sequence page kept) }
     ensures goes { GoesOn desk.old desk.new }
 {
     match desk.cache().first_empty(page) {

@@ -6,4 +6,4 @@ pub returns-then-not-is_searching-clause-goes : goal.returns-then-not-is_searchi
 returns-then-not-is_searching-clause-goes c = stays c.args.desk.now
 
 pub returns-clause-damages : goal.returns-clause-damages
-returns-clause-damages c = c.end_search.ensures.damages c.search-found.ensures.damages
+returns-clause-damages c = c.end_search.ensures.damages c.args.part.now c.search-found.ensures.damages

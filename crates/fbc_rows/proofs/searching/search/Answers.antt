@@ -1,16 +1,17 @@
 -- Sequence by sequence the search comes further, until it is stopped.
-use Rattle.std.proofs.Common.{◌≡◌, ◌∙◌, ◌+◌, ℕ, Some, refl, sym, ap, subst}
+use Rattle.std.proofs.Common.{◌≡◌, ◌∙◌, ◌+◌, inl, inr, ℕ, Some, refl, sym, ap, subst}
 use Rattle.fbc_desk.specs.Calls.{GoesOn}
 use Rattle.fbc_desk.proofs.Goes.{goes_on}
 use Rattle.fbc_chains.specs.Showing.{Showing, shown_by}
 use Rattle.fbc_rows.specs.declared.parts.InsertPart.{InsertPart}
 use Rattle.fbc_rows.specs.declared.parts.Stage.TheVariants as stages
 use Rattle.fbc_rows.specs.Searching.{ArePassed, IsPassed, LooksOver, SearchStops}
+use Rattle.fbc_rows.proofs.Remembered.{damages-first}
 use Rattle.fbc_rows.proofs.Ways.{none-yet, one-more, rests, stops-there}
 use Rattle.fbc_rows.proofs.searching.search.Goals as goal
 
 pub loop-part-init : goal.loop-part-init
-loop-part-init c = (none-yet _ _ _, refl, GoesOn.stays _, refl)
+loop-part-init c = (none-yet _ _ _, refl, GoesOn.stays _, refl, inl refl)
 
 pub loop-part-preserved : goal.loop-part-preserved
 loop-part-preserved c =
@@ -21,6 +22,7 @@ loop-part-preserved c =
       c.look.ensures.same ∙ c.loop-part.invariant.1,
       goes_on _ _ _ c.loop-part.invariant.2 c.look.ensures.goes,
       rests c.args.part.now c.loop-part.part c.look.new.part (c.look.new.part.at + 1) stages.Slot c.loop-part.invariant.3 c.look.ensures.rest,
+      inr refl,
     )
 
 pub returns-in-Some-clause-passes : goal.returns-in-Some-clause-passes
@@ -41,3 +43,7 @@ returns-in-Some-clause-same c = c.look.ensures.same ∙ c.loop-part.invariant.1
 
 pub returns-in-Some-clause-goes : goal.returns-in-Some-clause-goes
 returns-in-Some-clause-goes c = goes_on _ _ _ c.loop-part.invariant.2 c.look.ensures.goes
+
+pub returns-in-Some-clause-damages : goal.returns-in-Some-clause-damages
+returns-in-Some-clause-damages c =
+    damages-first c.look.new.desk c.args.relation c.args.part.now c.loop-part.part c.in-Some.stop c.loop-part.invariant.4 c.in-Some.ensures.damages
