@@ -1,26 +1,9 @@
 -- Which answers a lock takes that is on its way.
-use Rattle.std.specs.Prelude.{Bool, true, false, if◌then◌else◌}
+use Rattle.std.specs.Prelude.{if◌then◌else◌}
 use Rattle.fbc_world.specs.declared.answers.Answer.{Answer}
-use Rattle.fbc_world.specs.declared.answers.Answer.TheVariants as answers
 use Rattle.fbc_reserve.specs.Waits.{WaitState, is_answer_to, stage_after, step_of}
 use Rattle.fbc_tra.specs.declared.beginning.BeginStage.{BeginStage}
 use Rattle.fbc_tra.specs.declared.beginning.BeginStage.TheVariants as at
-
--- Whether it is an answer to a lock, or to a look.
-abbrev pub is_answer_to_lock : Answer → Bool
-is_answer_to_lock answers.Granted = true
-is_answer_to_lock answers.Queued = true
-is_answer_to_lock (answers.Busy holder level) = true
-is_answer_to_lock (answers.Room used) = true
-is_answer_to_lock (answers.Deadlock circle) = true
-is_answer_to_lock (answers.Reaped owner) = true
-is_answer_to_lock _ = false
-
-abbrev pub is_answer_to_look : Answer → Bool
-is_answer_to_look answers.Granted = true
-is_answer_to_look (answers.NotYet holder) = true
-is_answer_to_look (answers.Reaped owner) = true
-is_answer_to_look _ = false
 
 -- The lock takes the answer, if it is one to what is asked for it.
 abbrev pub taken_if_asked : Answer → WaitState → WaitState
