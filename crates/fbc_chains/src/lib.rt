@@ -28,7 +28,7 @@
 //!   without a copy shows what an empty one does.
 //! - **Argued**: that what the copies tell is what the transaction is to see, also while others go on, is a matter of
 //!   laws that are not there yet.
-//! - No attachment uses it yet.
+//! - `fbc_attachment` reads rows by it.
 #![tactic(auto)]
 
 mod pages;

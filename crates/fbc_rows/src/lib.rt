@@ -27,7 +27,7 @@
 //!   - `refuse` passes over a free page exactly where it was refused twice running, and there is a place for it.
 //! - **Supposed**: nothing. What an edit needs is tested by the desk.
 //! - **Argued**: that no edit is refused, and that a call comes to no other end than is said here where it might go on.
-//! - No attachment uses it yet.
+//! - `fbc_attachment` inserts rows by it.
 #![tactic(auto)]
 
 mod gathering;
