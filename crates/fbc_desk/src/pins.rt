@@ -129,7 +129,7 @@ fn forget_notes(notes: &mut Vec<Note>, page: u32)
 }
 
 /// What was done under a pin of the page is forgotten.
-fn forget_deeds(deeds: &mut Vec<Deed>, page: u32)
+pub(crate) fn forget_deeds(deeds: &mut Vec<Deed>, page: u32)
     ensures items { deeds.new.items ≡ filter (λ (d : ADeed). not (support_of_deed d == page)) deeds.old.items }
     ensures len { vec_len deeds.new ≤ vec_len deeds.old }
     ensures capacity { vec_capacity deeds.new ≡ vec_capacity deeds.old }

@@ -4,10 +4,11 @@ ghost use Rattle.std.specs.Prelude.{◌≡◌, ◌↔◌, ◌<◌, IfOk, OnOk, O
 ghost use Rattle.fbc_cache.specs.declared.needs.Want.TheVariants as wants;
 ghost use Rattle.fbc_cache.specs.Takes.{Judges, broken_by, page_read};
 ghost use Rattle.fbc_cache.specs.Wants.{IsDueWant, IsHere, MayWant, Wants};
-ghost use Rattle.fbc_desk.specs.Taking.{DeskTakes};
+ghost use Rattle.fbc_desk.specs.Taking.{DeskTakes, deeds_left};
 ghost use Rattle.fbc_desk.specs.Desk.{sent};
 
 use crate::desk::Desk;
+use crate::pins::forget_deeds;
 use fbc_cache::{CacheFault, Need, Want};
 use fbc_world::{Answer, Ask};
 use std::alloc::AllocError;
@@ -46,6 +47,16 @@ impl Desk {
         self.is_spilled = false;
         self.cache.take(ask, answer, image)?;
         self.learn();
+        self.forget_written(ask);
         Ok(())
+    }
+
+    /// Forgets what was done in a page that is written.
+    fn forget_written(&mut self, ask: &Ask)
+        ensures { self.new ≡ record self.old { deeds = deeds_left ask.now self.old.deeds } }
+    {
+        if let Ask::Write { page, cause: _ } = *ask {
+            forget_deeds(&mut self.deeds, page);
+        }
     }
 }
