@@ -4,6 +4,7 @@ use Rattle.std.specs.List.{filter, remove}
 use Rattle.std.specs.Option.{option_map_or}
 use Rattle.fbc_kinds.specs.declared.edges.Edge.{Edge}
 use Rattle.fbc_kinds.specs.declared.edits.Edit.{Edit}
+use Rattle.fbc_kinds.specs.Edits.{IsEdit}
 use Rattle.fbc_world.specs.declared.events.LocalEvent.{LocalEvent}
 use Rattle.fbc_world.specs.declared.events.LocalEvent.TheVariants as local
 use Rattle.fbc_notes.specs.declared.notes.Note.{Note}
@@ -105,8 +106,10 @@ pub record HasPlace (d : DeskState) (highs : ℕ) : Type 0 where
   pub events : length d.unsent + highs + 1 ≤ event_limit
   pub deeds : length d.deeds < deed_limit
 
--- An edit may be made: the page is in use and held in EX, the edit fits it, has its grounds, and has a place.
+-- An edit may be made: its numbers are such as bytes hold, the page is in use and held in EX, the edit fits it, has its grounds, and has
+-- a place.
 pub record MayMake (d : DeskState) (page : ℕ) (edit : Edit) (highs : List ℕ) : Type 0 where
+  pub numbers : IsEdit edit
   pub may : MayEdit d.cache page edit
   pub grounds : HasGrounds d page edit highs
   pub place : HasPlace d (length highs)

@@ -1,6 +1,6 @@
 -- What an edit rests on, told by what the desk has at hand.
-use Rattle.std.specs.Prelude.{◌≡◌, ◌≢◌, ◌⊎◌, ◌<◌, ◌+◌, ◌*◌, ◌/◌, ◌==◌, ◌&&◌, ℕ, Bool, true, false, List, [], ◌∷◌, ◌++◌, Option, Some, None}
-use Rattle.std.specs.List.{Contains, list_all, list_any}
+use Rattle.std.specs.Prelude.{◌≡◌, ◌≢◌, ◌⊎◌, ◌<◌, ◌+◌, ◌*◌, ◌/◌, ◌==◌, ◌&&◌, ℕ, Bool, true, not, false, List, [], ◌∷◌, ◌++◌, Option, Some, None}
+use Rattle.std.specs.List.{Contains, filter, list_all, list_any}
 use Rattle.std.specs.Option.{option_map}
 use Rattle.fbc_kinds.specs.declared.edits.Edit.{Edit}
 use Rattle.fbc_kinds.specs.declared.edits.Edit.TheVariants as edit
@@ -157,9 +157,14 @@ pub record HasGrounds (d : DeskState) (page : ℕ) (edit : Edit) (highs : List �
   pub unsealed : IsUnsealed d.own
   pub by_kind : GroundsOf d page highs edit
 
--- What an edit has done that later edits rest on.
+-- Whether the deed is the taking of the page.
+abbrev pub takes : ℕ → Deed → Bool
+takes page (deed.Taken taken from) = taken == page
+
+-- What an edit has done that later edits rest on: a page that is named is one of those that were taken no more.
 abbrev pub deeds_after : ℕ → Edit → List Deed → List Deed
 deeds_after page (edit.TakePage taken) deeds = deeds ++ deed.Taken taken page ∷ []
+deeds_after page (edit.Name slot named) deeds = filter (λ (made : Deed). not (takes named made)) deeds
 deeds_after page _ deeds = deeds
 
 -- The page under whose pin a deed stands: the page inventory from which a page was taken.

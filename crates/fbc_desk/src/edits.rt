@@ -1,16 +1,20 @@
 //! Edits that pass their tests.
 
-ghost use Rattle.std.specs.Prelude.{◌≡◌, ◌↔◌, ◌++◌, ◌∷◌, ◌≤◌, ◌<◌, ◌+◌, ◌-◌, [], IfOk, IsTrue, OnErr, drop, length, vec_capacity, vec_len};
+ghost use Rattle.std.specs.Prelude.{◌≡◌, ◌↔◌, ◌++◌, ◌∷◌, ◌≤◌, ◌<◌, ◌+◌, ◌-◌, ◌^◌, [], IfOk, IsTrue, OnErr, drop, length, not, vec_capacity, vec_len};
+ghost use Rattle.std.specs.List.{filter};
+ghost use Rattle.fbc_kinds.specs.Edits.{HasCellNumbers, IsEdit};
+ghost use Rattle.fbc_kinds.specs.Limits.{number_limit};
 ghost use Rattle.fbc_world.specs.declared.events.LocalEvent.TheVariants as events;
+ghost use Rattle.fbc_desk.specs.declared.own.Deed.{Deed as ADeed};
 ghost use Rattle.fbc_desk.specs.declared.own.Deed.TheVariants as deeds;
 ghost use Rattle.fbc_desk.specs.Calls.{EditComesTo, GoesOn, HasPlace, MayMake, befores};
 ghost use Rattle.fbc_desk.specs.Desk.{with_cache};
-ghost use Rattle.fbc_desk.specs.Grounds.{deeds_after, own_after, own_remembers};
+ghost use Rattle.fbc_desk.specs.Grounds.{deeds_after, own_after, own_remembers, takes};
 
 use crate::desk::{Desk, MOST_DEEDS, MOST_EVENTS};
 use crate::own::{Deed, Own};
 use fbc_cache::Edited;
-use fbc_kinds::{Edge, Edit, State};
+use fbc_kinds::{Cell, Edge, Edit, State};
 use fbc_world::LocalEvent;
 use std::alloc::AllocError;
 
@@ -76,6 +80,7 @@ impl Desk {
     pub fn may_make(&self, page: u32, edit: &Edit, highs: &[u32]) -> Result<bool, AllocError>
         ensures { IfOk result (λ may. IsTrue may ↔ MayMake self.now page edit.now highs.now) }
     {
+        has_numbers(edit);
         if !self.has_place(highs.len()) || !self.has_grounds(page, edit, highs) {
             return Ok(false);
         }
@@ -119,8 +124,13 @@ impl Desk {
         requires deed { length self.old.deeds < 8 }
         ensures { self.new ≡ record self.old { deeds = deeds_after page edit.now self.old.deeds } }
     {
-        if let Edit::TakePage { page: taken } = *edit {
-            self.push_deed(taken, page);
+        match *edit {
+            Edit::TakePage { page: taken } => self.push_deed(taken, page),
+            Edit::Name {
+                slot: _,
+                page: named,
+            } => forget_taking(&mut self.deeds, named),
+            _ => {}
         }
     }
 
@@ -140,6 +150,64 @@ impl Desk {
     {
         self.deeds.push(Deed::Taken { page, inventory }).unwrap();
     }
+}
+
+/// The numbers of an edit are such as bytes hold. It does nothing when it is run.
+fn has_numbers(edit: &Edit)
+    ensures { IsEdit edit.now }
+{
+    match *edit {
+        Edit::AddTip { page } => is_number(page),
+        Edit::AddPointer { relation: _, page } => is_number(page),
+        Edit::Name { slot: _, page } => is_number(page),
+        Edit::PutCell {
+            cell: _,
+            ref content,
+        } => has_cell_numbers(content),
+        Edit::Format {
+            kind: _,
+            page,
+            relation: _,
+            sequence,
+        } => are_numbers(page, sequence),
+        _ => {}
+    }
+}
+
+/// Likewise of a version.
+fn has_cell_numbers(content: &Cell)
+    ensures { HasCellNumbers content.now }
+{
+    are_numbers(content.number, content.back_page);
+    is_place(content.back_cell);
+}
+
+/// Two numbers of four bytes each.
+fn are_numbers(first: u32, second: u32)
+    ensures first { first < number_limit }
+    ensures second { second < number_limit }
+{
+    is_number(first);
+    is_number(second);
+}
+
+/// A number of four bytes.
+fn is_number(number: u32)
+    ensures { number < number_limit }
+{}
+
+/// A place of two bytes.
+fn is_place(place: u16)
+    ensures { place < 2 ^ 16 }
+{}
+
+/// The page is one of those that were taken no more.
+fn forget_taking(deeds: &mut Vec<Deed>, page: u32)
+    ensures items { deeds.new.items ≡ filter (λ (d : ADeed). not (takes page d)) deeds.old.items }
+    ensures len { vec_len deeds.new ≤ vec_len deeds.old }
+    ensures capacity { vec_capacity deeds.new ≡ vec_capacity deeds.old }
+{
+    deeds.retain(|deed| !deed.takes(page));
 }
 
 /// The open transaction after an edit.

@@ -1,7 +1,7 @@
 //! The open transaction of an attachment, and what a part of its statement has done.
 
 ghost use Rattle.std.specs.Prelude.{◌≡◌};
-ghost use Rattle.fbc_desk.specs.Grounds.{support_of_deed};
+ghost use Rattle.fbc_desk.specs.Grounds.{support_of_deed, takes};
 
 use fbc_kinds::Snapshot;
 
@@ -24,6 +24,18 @@ pub enum Deed {
 }
 
 impl Deed {
+    /// Whether it is the taking of the page.
+    pub fn takes(&self, page: u32) -> bool
+        ensures { result ≡ takes page self.now }
+    {
+        match *self {
+            Deed::Taken {
+                page: taken,
+                inventory: _,
+            } => taken == page,
+        }
+    }
+
     /// The page under whose pin it stands.
     pub fn support(&self) -> u32
         ensures { result ≡ support_of_deed self.now }
