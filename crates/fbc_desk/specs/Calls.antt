@@ -1,5 +1,5 @@
 -- What each call does to the desk, and what a run of calls between two steps comes to.
-use Rattle.std.specs.Prelude.{◌≡◌, ◌<◌, ◌≤◌, ◌+◌, ◌==◌, ℕ, Bool, true, false, not, if◌then◌else◌, List, [], ◌∷◌, ◌++◌, Option, Some, None, length, map, slice_get}
+use Rattle.std.specs.Prelude.{◌≡◌, ◌<◌, ◌≤◌, ◌+◌, ◌==◌, ◌||◌, ℕ, Bool, true, false, not, if◌then◌else◌, List, [], ◌∷◌, ◌++◌, Option, Some, None, length, map, slice_get}
 use Rattle.std.specs.List.{filter, remove}
 use Rattle.std.specs.Option.{option_map_or}
 use Rattle.fbc_kinds.specs.declared.edges.Edge.{Edge}
@@ -17,6 +17,7 @@ use Rattle.fbc_cache.specs.Use as use_of
 use Rattle.fbc_desk.specs.declared.edits.Made.{Made}
 use Rattle.fbc_desk.specs.declared.edits.Made.TheVariants as made
 use Rattle.fbc_desk.specs.declared.own.Deed.{Deed}
+use Rattle.fbc_desk.specs.declared.own.Own.{Own}
 use Rattle.fbc_desk.specs.Desk.{DeskState, deed_limit, event_limit, with_cache}
 use Rattle.fbc_desk.specs.Grounds.{HasGrounds, deeds_after, own_after, support_of_deed}
 use Rattle.fbc_desk.specs.Noting.{may_note_now, with_note}
@@ -58,6 +59,14 @@ IsLastOf page events (Some place) =
     × ((later : ℕ) → place < later → option_map_or (is_event_of page) (slice_get events later) false ≡ false)
 IsLastOf page events None = (place : ℕ) → option_map_or (is_event_of page) (slice_get events place) false ≡ false
 
+-- The header stays in use until it gives out the number of the open transaction.
+abbrev pub may_leave : ℕ → Option Own → Bool
+may_leave page own = not (page == 0) || option_map_or (λ (o : Own). o.is_raised) own true
+
+-- An unpin of a page that is to stay in use is one that no step carries.
+abbrev pub with_leaving : ℕ → DeskState → DeskState
+with_leaving page d = if may_leave page d.own then with_event (local.Unpin page) d else record d { is_spilled = true }
+
 -- A pin that was not sent, and behind which there is no event of the page, is taken back; else the unpin is one event more.
 abbrev pub is_taken_back : List LocalEvent → Option ℕ → Bool
 is_taken_back events (Some place) = option_map_or is_pin (slice_get events place) false
@@ -65,7 +74,7 @@ is_taken_back events None = false
 
 abbrev pub with_unpin : ℕ → Option ℕ → DeskState → DeskState
 with_unpin page last d =
-    if is_taken_back d.unsent last then record d { unsent = option_map_or (remove d.unsent) last d.unsent } else with_event (local.Unpin page) d
+    if is_taken_back d.unsent last then record d { unsent = option_map_or (remove d.unsent) last d.unsent } else with_leaving page d
 
 -- What was found and done under a pin of the page is forgotten.
 abbrev pub is_supported_by : ℕ → Option ℕ → Bool

@@ -21,7 +21,8 @@
 //! - **Supposed**: the shape is one that a recognised file has; a page that is wanted may be so and is one that
 //!   the file may have (`want`).
 //! - **Argued**: that what passes the tests is legal is a matter of laws that are not there yet. An event for
-//!   which there is no place spills (`is_spilled`), and no body does so much between two steps.
+//!   which there is no place spills (`is_spilled`), and no body does so much between two steps. So does an unpin of
+//!   the header by which the number of the open transaction is not given out yet, and no body asks for one.
 //! - The bodies of statements and `fbc_attachment` use it, in plays of the tests; no command of the program does so yet.
 #![tactic(auto)]
 

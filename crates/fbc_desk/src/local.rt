@@ -2,9 +2,10 @@
 
 ghost use Rattle.std.specs.Prelude.{◌≡◌, ◌<◌, ◌++◌, ◌∷◌, [], IfSome, length};
 ghost use Rattle.fbc_world.specs.declared.events.LocalEvent.TheVariants as events;
-ghost use Rattle.fbc_desk.specs.Calls.{IsLastOf, is_event_of, is_pin, with_event, with_unpin};
+ghost use Rattle.fbc_desk.specs.Calls.{IsLastOf, is_event_of, is_pin, may_leave, with_event, with_leaving, with_unpin};
 
 use crate::desk::{Desk, MOST_EVENTS};
+use crate::own::Own;
 use fbc_kinds::Edit;
 use fbc_world::LocalEvent;
 
@@ -20,11 +21,11 @@ impl Desk {
         }
     }
 
-    /// An unpin is one event more, where there is place for it.
+    /// An unpin is one event more, where there is place for it and the page need not stay in use.
     fn push_unpin(&mut self, page: u32)
-        ensures { self.new ≡ with_event (events.Unpin page) self.old }
+        ensures { self.new ≡ with_leaving page self.old }
     {
-        if self.unsent.len() == MOST_EVENTS {
+        if self.unsent.len() == MOST_EVENTS || !may_leave(page, &self.own) {
             self.is_spilled = true;
         } else {
             self.push(LocalEvent::Unpin { page });
@@ -69,6 +70,16 @@ pub(crate) fn last_of(page: u32, events: &[LocalEvent]) -> Option<usize>
         }
     }
     None
+}
+
+/// Whether the page need not stay in use: the header does, until it gives out the number of the open transaction.
+fn may_leave(page: u32, own: &Option<Own>) -> bool
+    ensures { result ≡ may_leave page own.now }
+{
+    match own {
+        Some(own) => page != 0 || own.is_raised,
+        None => true,
+    }
 }
 
 /// Whether an event is a pin, an unpin or an edit of the page.

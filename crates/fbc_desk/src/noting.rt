@@ -44,7 +44,7 @@ impl Desk {
         self.notes.push(*note).unwrap();
     }
 
-    /// Whether the pages that are at hand show it.
+    /// Whether the pages that are at hand show it, and the one that it is of is in use.
     fn may_note(&self, note: &Note) -> bool
         ensures { result ≡ may_note_now self.now note.now }
     {
@@ -54,7 +54,7 @@ impl Desk {
                 sequence,
                 pointer,
                 page,
-            } => self.names_now(relation, sequence, pointer, page),
+            } => self.cache.pinned(page) && self.names_now(relation, sequence, pointer, page),
             _ => false,
         }
     }
