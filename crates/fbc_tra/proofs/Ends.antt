@@ -8,7 +8,7 @@ use Rattle.fbc_world.specs.declared.events.LocalEvent.{LocalEvent}
 use Rattle.fbc_world.specs.declared.events.LocalEvent.TheVariants as local
 use Rattle.fbc_kinds.specs.declared.snapshots.Snapshot.{Snapshot}
 use Rattle.fbc_reserve.specs.Waits.{WaitState}
-use Rattle.fbc_desk.specs.Calls.{Makes, Unpins, UnpinsAll, is_taken_back, next, none, with_event, with_unpin}
+use Rattle.fbc_desk.specs.Calls.{Makes, Unpins, UnpinsAll, is_taken_back, may_leave, next, none, with_event, with_leaving, with_unpin}
 use Rattle.fbc_desk.specs.Desk.{DeskState, event_limit}
 use Rattle.fbc_desk.specs.Grounds.{MayRaise, own_after}
 use Rattle.fbc_tra.specs.declared.beginning.BeginStage.{BeginStage}
@@ -27,11 +27,17 @@ event-own event d = go (length d.unsent == event_limit) where
   go true = refl
   go false = refl
 
+leaving-own : (page : ℕ) (d : DeskState) → (with_leaving page d).own ≡ d.own
+leaving-own page d = go (may_leave page d.own) where
+  go : (t : Bool) → (if t then with_event (local.Unpin page) d else record d { is_spilled = true }).own ≡ d.own
+  go true = event-own (local.Unpin page) d
+  go false = refl
+
 unpin-own : (page : ℕ) (last : Option ℕ) (d : DeskState) → (with_unpin page last d).own ≡ d.own
 unpin-own page last d = go (is_taken_back d.unsent last) where
-  go : (t : Bool) → (if t then record d { unsent = option_map_or (remove d.unsent) last d.unsent } else with_event (local.Unpin page) d).own ≡ d.own
+  go : (t : Bool) → (if t then record d { unsent = option_map_or (remove d.unsent) last d.unsent } else with_leaving page d).own ≡ d.own
   go true = refl
-  go false = event-own (local.Unpin page) d
+  go false = leaving-own page d
 
 unpins-own : (before : DeskState) (page : ℕ) (after : DeskState) → Unpins before page after → after.own ≡ before.own
 unpins-own before page after unpins = ap (λ (d : DeskState). d.own) unpins.is_after ∙ unpin-own page unpins.last before
