@@ -81,7 +81,7 @@ inventory-damage d relation k page broken (inr elsewhere) =
     (subst (λ (p : ℕ). misplaced (place_in ((shown_by d.cache).copies p)) (place 2 0 k) ≡ Some broken) (sym elsewhere.1) elsewhere.2)
 
 -- What is shown where nothing but the order in which pages were used is another.
-used-shows : (before after : DeskState) → IsOnlyUsed before after → shown_by after.cache ≡ shown_by before.cache
+pub used-shows : (before after : DeskState) → IsOnlyUsed before after → shown_by after.cache ≡ shown_by before.cache
 used-shows before after same =
     subst (λ (d : DeskState). shown_by d.cache ≡ shown_by before.cache) (sym same.rest)
     (λ i. record { shape = before.cache.shape; pointers = before.cache.pointers; copies = λ page. ap (option_and_then (λ (b : Buffer). b.copy)) (same.buffers page) i })

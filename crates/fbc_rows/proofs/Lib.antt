@@ -1,7 +1,12 @@
 mod Damaged
 mod Ends
+mod Gone
 mod Missed
+mod Onward
+mod Remembered
+mod Shown
+mod Standing
 mod Steps
+mod Uses
 mod Ways
 mod Written
-mod Remembered

@@ -1,5 +1,5 @@
 -- What comes before the row is put.
-use Rattle.std.proofs.Common.{◌≡◌, ℕ, List, Option, Some, None, Result, Ok, Err, IfOk, refl, inl, inr}
+use Rattle.std.proofs.Common.{◌≡◌, ℕ, List, Option, Some, None, Result, Ok, Err, IfOk, refl, sym, subst, inl, inr}
 use Rattle.fbc_desk.specs.Calls.{GoesOn, UnpinsAll, stays}
 use Rattle.fbc_desk.specs.Desk.{DeskState}
 use Rattle.fbc_desk.proofs.Goes.{goes_on}
@@ -7,23 +7,14 @@ use Rattle.fbc_chains.specs.Showing.{Showing}
 use Rattle.fbc_rows.specs.declared.parts.InsertPart.{InsertPart}
 use Rattle.fbc_rows.specs.declared.parts.RowStep.{RowStep}
 use Rattle.fbc_rows.specs.declared.parts.RowStep.TheVariants as step
-use Rattle.fbc_rows.specs.declared.parts.Stage.{Stage}
-use Rattle.fbc_rows.specs.declared.parts.Stage.TheVariants as stages
-use Rattle.fbc_rows.specs.Inserting.{EndsAt, FindsCell, InsertComesTo, IsAtEnd, IsBefore, IsBetween, IsUnused, Leaves, LimitComes, Searches, SearchesFirst, Sought, place_after}
+use Rattle.fbc_rows.specs.declared.searching.Stop.{Stop}
+use Rattle.fbc_rows.specs.declared.searching.Stop.TheVariants as stop
+use Rattle.fbc_rows.specs.Inserting.{InsertComesTo, IsAtEnd, IsBefore, IsBetween, IsUnused, Leaves, LimitComes, Searches, SearchesFirst, Sought, place_after}
 use Rattle.fbc_rows.specs.Putting.{PutComesTo}
+use Rattle.fbc_rows.specs.Searching.{ArePassed, CellComesTo, PassEnds, SearchEnds, SearchStops}
+use Rattle.fbc_rows.proofs.Ways.{all-passed}
 
--- What the search for an empty cell comes to is no row.
-pub cell-before : (s : Showing) (relation : ℕ) (from to : InsertPart) (found : RowStep) → FindsCell s relation from.at from.last to (Some found) → IsBefore s relation from found
-cell-before s relation from to (step.Done row) is = is
-cell-before s relation from to (step.Miss need) is = tt
-cell-before s relation from to (step.Must asked) is = tt
-cell-before s relation from to step.Again is = tt
-cell-before s relation from to (step.Limit pages) is = is
-cell-before s relation from to (step.Damaged page broken) is = tt
-cell-before s relation from to step.Refused is = tt
-cell-before s relation from to step.Unbuilt is = tt
-
--- Nor is what comes between.
+-- What comes between is no row.
 pub between-before : (s : Showing) (relation : ℕ) (from : InsertPart) (found : RowStep) → IsBetween found → IsBefore s relation from found
 between-before s relation from (step.Done row) is = is
 between-before s relation from (step.Miss need) is = tt
@@ -107,29 +98,23 @@ end-limit s relation from step.Refused is = tt
 end-limit s relation from step.Unbuilt is = tt
 
 -- What the search for an empty cell comes to is how far it goes.
-pub cell-searches : (s : Showing) (relation : ℕ) (from to : InsertPart) (found : Option RowStep) → FindsCell s relation from.at from.last to found → SearchesFirst s relation from.at to found
-cell-searches s relation from to None is = go to.stage is where
-  go : (stage : Stage) → EndsAt s relation from.at stage → Sought s relation from.at
-  go (stages.Put page sequence cell) ends = Sought.room sequence page cell ends.0 ends.1
-  go (stages.Slots pointer) ends = Sought.all ends
-  go stages.Slot ends = absurd ends
-  go (stages.Page page) ends = absurd ends
-  go (stages.Named page broken) ends = absurd ends
-  go (stages.Header known) ends = absurd ends
-  go (stages.Find sequence from-there) ends = absurd ends
-  go (stages.Get new) ends = absurd ends
-  go (stages.Pointer new) ends = absurd ends
-  go (stages.Free new) ends = absurd ends
-  go (stages.Take new at) ends = absurd ends
-  go (stages.Name new) ends = absurd ends
-cell-searches s relation from to (Some (step.Done row)) is = absurd is
-cell-searches s relation from to (Some (step.Miss need)) is = inr is
-cell-searches s relation from to (Some (step.Must asked)) is = absurd is
-cell-searches s relation from to (Some step.Again) is = tt
-cell-searches s relation from to (Some (step.Limit pages)) is = Sought.all is.passed
-cell-searches s relation from to (Some (step.Damaged page broken)) is = inr is
-cell-searches s relation from to (Some step.Refused) is = absurd is
-cell-searches s relation from to (Some step.Unbuilt) is = absurd is
+pass-searches : (s : Showing) (relation from : ℕ) (last : Option ℕ) (between to : InsertPart) (found : Option RowStep) → Sought s relation from → PassEnds last between to found → SearchesFirst s relation from to found
+pass-searches s relation from None between to found is ends = subst (λ (f : Option RowStep). SearchesFirst s relation from to f) (sym ends.0) is
+pass-searches s relation from (Some pages) between to found is ends = subst (λ (f : Option RowStep). SearchesFirst s relation from to f) (sym ends.0) is
+
+ends-search : (s : Showing) (relation home from : ℕ) (between to : InsertPart) (stopped : Option Stop) (found : Option RowStep) → ArePassed s relation from between.at → SearchStops s relation between.at stopped
+    → SearchEnds home between to stopped found → SearchesFirst s relation from to found
+ends-search s relation home from between to None found passes stops ends = pass-searches s relation from between.last between to found (Sought.all (all-passed s relation from between.at passes stops)) ends
+ends-search s relation home from between to (Some (stop.Room page cell)) found passes stops ends =
+    subst (λ (f : Option RowStep). SearchesFirst s relation from to f) (sym ends.0) (Sought.room between.at page cell passes stops)
+ends-search s relation home from between to (Some (stop.Miss need)) found passes stops ends =
+    subst (λ (f : Option RowStep). SearchesFirst s relation from to f) (sym ends.0) (inr (subst (λ (p : InsertPart). ArePassed s relation from p.at) (sym ends.1) passes))
+ends-search s relation home from between to (Some stop.Gone) found passes stops ends = subst (λ (f : Option RowStep). SearchesFirst s relation from to f) (sym ends.0) tt
+ends-search s relation home from between to (Some (stop.Damaged page broken)) found passes stops ends =
+    subst (λ (f : Option RowStep). SearchesFirst s relation from to f) (sym ends.0) (inr (subst (λ (p : InsertPart). ArePassed s relation from p.at) (sym ends.1) passes))
+
+pub cell-searches : (s : Showing) (relation home : ℕ) (from to : InsertPart) (found : Option RowStep) → CellComesTo s relation home from to found → SearchesFirst s relation from.at to found
+cell-searches s relation home from to found is = ends-search s relation home from.at is.between to is.stopped found is.passes is.stops is.ends
 
 -- Where it goes to its end, it does so whatever follows.
 pub sought-searches : (s : Showing) (relation from : ℕ) (to : InsertPart) (found : RowStep) → Sought s relation from → Searches s relation from to found

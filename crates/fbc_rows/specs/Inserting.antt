@@ -7,30 +7,14 @@ use Rattle.fbc_chains.specs.Showing.{Showing}
 use Rattle.fbc_rows.specs.declared.parts.InsertPart.{InsertPart}
 use Rattle.fbc_rows.specs.declared.parts.RowStep.{RowStep}
 use Rattle.fbc_rows.specs.declared.parts.RowStep.TheVariants as step
-use Rattle.fbc_rows.specs.declared.parts.Stage.{Stage}
 use Rattle.fbc_rows.specs.declared.parts.Stage.TheVariants as stage
 use Rattle.fbc_rows.specs.Putting.{PutsRow}
 use Rattle.fbc_rows.specs.Searching.{ArePassed, HasRoom, sequences}
-
--- The search ends: each sequence before this one is passed over, and there is room; or all are passed over.
-abbrev pub EndsAt : Showing → ℕ → ℕ → Stage → Type 0
-EndsAt s relation from (stage.Put page sequence cell) = ArePassed s relation from sequence × HasRoom s relation sequence page cell
-EndsAt s relation from (stage.Slots pointer) = ArePassed s relation from (sequences s relation)
-EndsAt s relation from _ = ⊥
 
 -- The last pass is over: this is its limit, and all sequences are passed over from where it stood.
 pub record EndsLast (s : Showing) (relation from : ℕ) (last : Option ℕ) (pages : ℕ) : Type 0 where
   pub limit : last ≡ Some pages
   pub passed : ArePassed s relation from (sequences s relation)
-
--- What the search for an empty cell comes to: it ends, or stops at the sequence where the part stands, or begins anew.
-abbrev pub FindsCell : Showing → ℕ → ℕ → Option ℕ → InsertPart → Option RowStep → Type 0
-FindsCell s relation from last to None = EndsAt s relation from to.stage
-FindsCell s relation from last to (Some (step.Limit pages)) = EndsLast s relation from last pages
-FindsCell s relation from last to (Some (step.Miss need)) = ArePassed s relation from to.at
-FindsCell s relation from last to (Some (step.Damaged page broken)) = ArePassed s relation from to.at
-FindsCell s relation from last to (Some step.Again) = Unit {0}
-FindsCell s relation from last to (Some _) = ⊥
 
 -- Before the row is put, nothing ends with a row; and the search for an empty cell alone ends with a limit.
 abbrev pub IsBetween : RowStep → Type 0

@@ -1,4 +1,5 @@
 pub mod Damages
+pub mod Gathered
 pub mod Gathering
 pub mod Inserting
 pub mod Making
@@ -8,4 +9,5 @@ pub mod Parts
 pub mod Putting
 pub mod Searching
 pub mod Slots
+pub mod Stages
 pub mod Writes

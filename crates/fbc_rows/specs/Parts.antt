@@ -6,6 +6,10 @@ use Rattle.fbc_rows.specs.declared.parts.InsertPart.{InsertPart}
 use Rattle.fbc_rows.specs.declared.parts.Stage.{Stage}
 use Rattle.fbc_rows.specs.declared.parts.Stage.TheVariants as stage
 
+-- The part where it stands at another stage.
+abbrev pub standing : Stage → InsertPart → InsertPart
+standing at p = record p { stage = at }
+
 -- Whether the page was the last one that was refused.
 abbrev pub is_refused : InsertPart → ℕ → Bool
 is_refused p page = option_map_or (λ last. last == page) p.refused false
@@ -35,3 +39,21 @@ is_searching stage.Slot = true
 is_searching (stage.Page page) = true
 is_searching (stage.Named page broken) = true
 is_searching _ = false
+
+-- Whether the part stands where the row is put.
+abbrev pub is_to_put : Stage → Bool
+is_to_put (stage.Put page sequence cell) = true
+is_to_put _ = false
+
+-- The place of a stage in the order of the stages.
+abbrev pub rank : Stage → ℕ
+rank (stage.Slots pointer) = 1
+rank (stage.Header known) = 2
+rank (stage.Find sequence search) = 3
+rank (stage.Get new) = 4
+rank (stage.Pointer new) = 5
+rank (stage.Free new) = 6
+rank (stage.Take new far) = 7
+rank (stage.Name new) = 8
+rank (stage.Put page sequence cell) = 9
+rank _ = 0

@@ -1,5 +1,5 @@
 -- A row is put into its cell.
-use Rattle.std.specs.Prelude.{◌≡◌, ◌≤◌, ◌*◌, ◌+◌, ◌^◌, [], ◌∷◌, ℕ, List, Option, Some, None}
+use Rattle.std.specs.Prelude.{◌≡◌, ◌⊎◌, ◌≤◌, ◌*◌, ◌+◌, ◌^◌, [], ◌∷◌, ℕ, List, Option, Some, None}
 use Rattle.fbc_kinds.specs.declared.edits.Edit.{Edit}
 use Rattle.fbc_kinds.specs.declared.edits.Edit.TheVariants as edit
 use Rattle.fbc_kinds.specs.declared.pages.Flag.TheVariants as flag
@@ -7,7 +7,7 @@ use Rattle.fbc_kinds.specs.declared.shapes.Shape.{Shape}
 use Rattle.fbc_cache.specs.Cache.{CacheState, copy_in}
 use Rattle.fbc_cache.specs.Readers.{place, place_in}
 use Rattle.fbc_desk.specs.declared.edits.Made.TheVariants as made
-use Rattle.fbc_desk.specs.Calls.{EditComesTo, UnpinsAll}
+use Rattle.fbc_desk.specs.Calls.{EditComesTo, MayMake, UnpinsAll}
 use Rattle.fbc_desk.specs.Desk.{DeskState}
 use Rattle.fbc_desk.specs.Roles.{misplaced}
 use Rattle.fbc_chains.specs.Places.{row_cells}
@@ -30,7 +30,7 @@ IsPlaced c relation sequence page = misplaced (place_in (copy_in c.held page)) (
 
 abbrev pub IsRowOn : CacheState → ℕ → ℕ → ℕ → ℕ → Option ℕ → Type 0
 IsRowOn c relation sequence page cell (Some row) = IsPlaced c relation sequence page × (row ≡ row_at c.shape relation sequence cell)
-IsRowOn c relation sequence page cell None = Unit {0}
+IsRowOn c relation sequence page cell None = (¬ IsPlaced c relation sequence page) ⊎ (2 ^ 32 ≤ row_at c.shape relation sequence cell)
 
 -- A new row is put into the cell.
 abbrev pub row_edit : ℕ → ℕ → List ℕ → Edit
@@ -48,9 +48,14 @@ pub record PutsRow (before : DeskState) (relation number : ℕ) (value : List �
   pub placed : IsPlaced before.cache relation sequence page
   pub is_row : row ≡ row_at before.cache.shape relation sequence cell
 
+-- The row is refused: it is none of a data page that stands in its place, or past all numbers; or the edit may not be made.
+abbrev pub IsRefused : DeskState → ℕ → ℕ → List ℕ → ℕ → ℕ → ℕ → Type 0
+IsRefused d relation number value page sequence cell =
+    IsRowOn d.cache relation sequence page cell None ⊎ (¬ MayMake d page (row_edit cell number value) row_highs)
+
 -- What it comes to.
 abbrev pub PutComesTo : DeskState → ℕ → ℕ → List ℕ → ℕ → ℕ → ℕ → DeskState → RowStep → Type 0
 PutComesTo before relation number value page sequence cell after (step.Done row) = PutsRow before relation number value page sequence cell row after
 PutComesTo before relation number value page sequence cell after (step.Must asked) = WritesFirst before page (row_edit cell number value) row_highs asked after
-PutComesTo before relation number value page sequence cell after step.Refused = after ≡ before
+PutComesTo before relation number value page sequence cell after step.Refused = IsRefused before relation number value page sequence cell × (after ≡ before)
 PutComesTo before relation number value page sequence cell after _ = ⊥

@@ -1,13 +1,19 @@
 //! What a new data page needs: an empty slot, and a free page.
 #![tactic(auto, using(fbc_desk::proofs::Goes::goes_on))]
 
-ghost use Rattle.std.specs.Prelude.{◌≡◌, ◌<◌, ◌≤◌, IfSome, length, ℕ};
+ghost use Rattle.std.specs.Prelude.{◌≡◌, ◌<◌, ◌≤◌, ◌*◌, IfSome, length, ℕ};
+ghost use Rattle.fbc_kinds.specs.Limits.{pointer_limit, slots};
+ghost use Rattle.fbc_space.specs.Finding.{GoesPast, StopsAt};
+ghost use Rattle.fbc_rows.specs.declared.parts.RowStep.TheVariants as steps;
+ghost use Rattle.fbc_rows.specs.declared.parts.Stage.TheVariants as stages;
 ghost use Rattle.fbc_rows.specs.Damages.{Damages, EmptyDamages, FoundDamages};
 ghost use Rattle.fbc_rows.specs.Missing.{EmptyMisses, FoundMisses, Misses};
 ghost use Rattle.fbc_rows.specs.Inserting.{IsBetween, Leaves};
 ghost use Rattle.fbc_cache.specs.Remembered.{pointers_of};
 ghost use Rattle.fbc_desk.specs.Calls.{GoesOn};
 ghost use Rattle.fbc_chains.specs.Showing.{shown_by};
+ghost use Rattle.fbc_rows.specs.Gathered.{FindComesTo, GetComesTo, HeaderComesTo, PastPointers, SlotsComeTo, after_empty};
+ghost use Rattle.fbc_rows.specs.Parts.{in_last, standing};
 ghost use Rattle.fbc_rows.specs.Gathering.{AreFull, EmptyEnds, FindsEmpty, FirstEmpty, LooksForEmpty};
 ghost use Rattle.fbc_rows.specs.Writes.{Writes};
 
@@ -42,6 +48,8 @@ pub(crate) fn find_slot(
     place: u32,
     from: u32,
 ) -> Option<RowStep>
+    ensures comes { SlotsComeTo (shown_by desk.old.cache) relation place from part.old part.new result }
+    ensures same { shown_by desk.new.cache ≡ shown_by desk.old.cache }
     ensures between { IfSome result IsBetween }
     ensures leaves { IfSome result (Leaves desk.new part.new) }
     ensures misses { IfSome result (Misses desk.new) }
@@ -63,6 +71,7 @@ pub(crate) fn find_slot(
 
 /// What the search for an empty slot comes to, of which this stops it at a pointer page.
 fn end_at(part: &mut InsertPart, place: u32, empty: Empty) -> Option<RowStep>
+    ensures after { part.new ≡ after_empty place empty part.old }
     ensures ends { EmptyEnds empty result }
 {
     match empty {
@@ -147,6 +156,8 @@ pub(crate) fn look_for_pointers(
     relation: u8,
     known: u32,
 ) -> RowStep
+    ensures comes { HeaderComesTo (shown_by desk.old.cache) relation known part.old part.new result }
+    ensures same { shown_by desk.new.cache ≡ shown_by desk.old.cache }
     ensures between { IsBetween result }
     ensures leaves { Leaves desk.new part.new result }
     ensures misses { Misses desk.new result }
@@ -163,6 +174,8 @@ pub(crate) fn look_for_pointers(
 
 /// The header is at hand, and no slot of so many pointer pages is empty.
 fn look_past_pointers(part: &mut InsertPart, desk: &mut Desk, relation: u8, known: u32) -> RowStep
+    ensures comes { PastPointers (shown_by desk.old.cache) relation known part.old part.new result }
+    ensures same { shown_by desk.new.cache ≡ shown_by desk.old.cache }
     ensures between { IsBetween result }
     ensures leaves { Leaves desk.new part.new result }
     ensures misses { Misses desk.new result }
@@ -181,13 +194,18 @@ fn look_past_pointers(part: &mut InsertPart, desk: &mut Desk, relation: u8, know
 }
 
 /// How many data pages a relation has at most.
-fn most_sequences(desk: &Desk) -> u32 {
+fn most_sequences(desk: &Desk) -> u32
+    ensures { result ≡ pointer_limit * slots (shown_by desk.now.cache).shape.size }
+{
     desk.holds();
     MOST_POINTERS * desk.slots()
 }
 
 /// The search goes on at its sequence.
 fn go_on(part: &mut InsertPart, desk: &mut Desk) -> RowStep
+    ensures again { result ≡ steps.Again }
+    ensures after { part.new ≡ standing stages.Slot part.old }
+    ensures same { shown_by desk.new.cache ≡ shown_by desk.old.cache }
     ensures between { IsBetween result }
     ensures leaves { Leaves desk.new part.new result }
     ensures misses { Misses desk.new result }
@@ -202,6 +220,9 @@ fn go_on(part: &mut InsertPart, desk: &mut Desk) -> RowStep
 
 /// The last pass begins.
 fn begin_last(part: &mut InsertPart, desk: &mut Desk, pages: u32) -> RowStep
+    ensures again { result ≡ steps.Again }
+    ensures after { part.new ≡ in_last pages part.old }
+    ensures same { shown_by desk.new.cache ≡ shown_by desk.old.cache }
     ensures between { IsBetween result }
     ensures leaves { Leaves desk.new part.new result }
     ensures misses { Misses desk.new result }
@@ -221,6 +242,8 @@ pub(crate) fn find_page(
     sequence: u32,
     from: FreeSearch,
 ) -> Option<RowStep>
+    ensures comes { FindComesTo desk.old sequence from part.old part.new result }
+    ensures same { shown_by desk.new.cache ≡ shown_by desk.old.cache }
     ensures between { IfSome result IsBetween }
     ensures leaves { IfSome result (Leaves desk.new part.new) }
     ensures misses { IfSome result (Misses desk.new) }
@@ -247,6 +270,9 @@ pub(crate) fn find_page(
 
 /// Searches for a free page below the limit of the file.
 fn find_free_below(search: &mut FreeSearch, desk: &mut Desk, passed: &Passed) -> Found
+    ensures past { GoesPast desk.old desk.old.cache.shape.limit search.old search.new }
+    ensures found { StopsAt desk.old desk.old.cache.shape.limit passed.now search.new result }
+    ensures same { shown_by desk.new.cache ≡ shown_by desk.old.cache }
     ensures misses { FoundMisses desk.new result }
     ensures damages { (relation : ℕ) → FoundDamages desk.new relation result }
     ensures goes { GoesOn desk.old desk.new }
@@ -257,6 +283,7 @@ fn find_free_below(search: &mut FreeSearch, desk: &mut Desk, passed: &Passed) ->
 
 /// Goes on where the free page is got. It is not in use yet.
 pub(crate) fn get_page(part: &mut InsertPart, desk: &Desk, new: NewPage) -> Option<RowStep>
+    ensures comes { GetComesTo desk.now new part.old part.new result }
     ensures between { IfSome result IsBetween }
     ensures leaves { IfSome result (Leaves desk.now part.new) }
     ensures misses { IfSome result (Misses desk.now) }

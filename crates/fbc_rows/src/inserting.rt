@@ -1,16 +1,17 @@
 //! The body of an insert.
 #![tactic(auto, using(fbc_desk::proofs::Goes::goes_on))]
 
-ghost use Rattle.std.specs.Prelude.{◌≡◌, ℕ, IfOk, IfSome, OnErr, Some, true};
+ghost use Rattle.std.specs.Prelude.{◌≡◌, IfOk, IfSome, OnErr, false, true};
 ghost use Rattle.fbc_desk.specs.Calls.{GoesOn};
-ghost use Rattle.fbc_chains.specs.Showing.{Showing, shown_by};
+ghost use Rattle.fbc_chains.specs.Showing.{shown_by};
 ghost use Rattle.fbc_rows.specs.declared.parts.InsertPart.{InsertPart as APart};
 ghost use Rattle.fbc_rows.specs.declared.parts.RowStep.TheVariants as steps;
-ghost use Rattle.fbc_rows.specs.Inserting.{FindsCell, InsertComesTo, IsAtEnd, IsBefore, IsBetween, Leaves, LimitComes, Searches, SearchesFirst, place_after};
+ghost use Rattle.fbc_rows.specs.Inserting.{InsertComesTo, IsAtEnd, IsBefore, IsBetween, Leaves, LimitComes, Searches, SearchesFirst, place_after};
 ghost use Rattle.fbc_rows.specs.Damages.{Damages, InsertDamages, SearchDamages};
 ghost use Rattle.fbc_rows.specs.Missing.{Misses, StopMisses};
-ghost use Rattle.fbc_rows.specs.Parts.{is_searching};
-ghost use Rattle.fbc_rows.specs.Searching.{ArePassed, SearchStops};
+ghost use Rattle.fbc_rows.specs.Parts.{is_searching, is_to_put, went_back};
+ghost use Rattle.fbc_rows.specs.Searching.{CellComesTo, SearchEnds, StopEnds};
+ghost use Rattle.fbc_rows.specs.Stages.{PutsAt, StageComesTo, Wants, WayComesTo, WayStops};
 ghost use Rattle.fbc_rows.specs.Writes.{Writes};
 
 use crate::gathering::{find_page, find_slot, get_page, look_for_pointers};
@@ -38,6 +39,7 @@ pub fn try_insert(
     number: u32,
     value: Value,
 ) -> Result<RowStep, AllocError>
+    ensures way { IfOk result (WayComesTo relation place.old number value desk.old part.old desk.new part.new) }
     ensures comes { IfOk result (InsertComesTo desk.old relation number value place.old place.new desk.new) }
     ensures limit { IfOk result (LimitComes (shown_by desk.old.cache) relation part.old) }
     ensures searches { is_searching part.old.stage ≡ true → IfOk result (Searches (shown_by desk.old.cache) relation part.old.at part.new) }
@@ -47,17 +49,49 @@ pub fn try_insert(
     ensures damages { IfOk result (InsertDamages desk.new relation part.old) }
     ensures goes { GoesOn desk.old desk.new }
     ensures err { OnErr result (place.new ≡ place.old) }
+    ensures stops { OnErr result (WayStops relation place.old desk.old part.old desk.new part.new) }
 {
-    if let Some(step) = find_room(part, desk, relation, *place) {
-        return Ok(step);
-    }
-    if let Some(step) = make_page(part, desk, relation)? {
-        return Ok(step);
+    while !part.is_to_put() {
+        if let Some(step) = go_on(part, desk, relation, *place)? {
+            return Ok(step);
+        }
     }
     put(part, desk, relation, place, number, value)
 }
 
-/// Puts the row, where the part stands there: then the place is the sequence of its page.
+/// What the insert comes to at a stage before the last; none where it goes on to a later one.
+fn go_on(
+    part: &mut InsertPart,
+    desk: &mut Desk,
+    relation: u8,
+    place: u32,
+) -> Result<Option<RowStep>, AllocError>
+    requires earlier { is_to_put part.old.stage ≡ false }
+    ensures comes { IfOk result (StageComesTo relation place part.old.stage desk.old part.old desk.new part.new) }
+    ensures before { IfOk result (λ done. IfSome done (IsBefore (shown_by desk.old.cache) relation part.old)) }
+    ensures between { is_searching part.old.stage ≡ false → IfOk result (λ done. IfSome done IsBetween) }
+    ensures searches { is_searching part.old.stage ≡ true → IfOk result (SearchesFirst (shown_by desk.old.cache) relation part.old.at part.new) }
+    ensures leaves { IfOk result (λ done. IfSome done (Leaves desk.new part.new)) }
+    ensures misses { IfOk result (λ done. IfSome done (Misses desk.new)) }
+    ensures writes { IfOk result (λ done. IfSome done (Writes desk.new)) }
+    ensures damages { IfOk result (λ done. IfSome done (InsertDamages desk.new relation part.old)) }
+    ensures goes { GoesOn desk.old desk.new }
+    ensures err { OnErr result (Wants relation part.old.stage desk.old part.old desk.new part.new) }
+{
+    match part.stage {
+        Stage::Slots { pointer } => Ok(find_slot(part, desk, relation, place, pointer)),
+        Stage::Header { known } => Ok(Some(look_for_pointers(part, desk, relation, known))),
+        Stage::Find { sequence, search } => Ok(find_page(part, desk, sequence, search)),
+        Stage::Get { new } => Ok(get_page(part, desk, new)),
+        Stage::Pointer { new } => Ok(use_pointer(part, desk, relation, new)),
+        Stage::Free { new } => Ok(use_page(part, desk, new)),
+        Stage::Take { new, taking } => take_page(part, desk, relation, new, taking),
+        Stage::Name { new } => name_page(part, desk, relation, new),
+        _ => Ok(find_cell(part, desk, relation, place)),
+    }
+}
+
+/// Puts the row: then the place is the sequence of its page.
 fn put(
     part: &InsertPart,
     desk: &mut Desk,
@@ -66,6 +100,8 @@ fn put(
     number: u32,
     value: Value,
 ) -> Result<RowStep, AllocError>
+    requires last { is_to_put part.now.stage ≡ true }
+    ensures puts { IfOk result (PutsAt relation number value part.now.stage desk.old desk.new) }
     ensures comes { IfOk result (InsertComesTo desk.old relation number value place.old place.new desk.new) }
     ensures ends { IfOk result IsAtEnd }
     ensures leaves { IfOk result (Leaves desk.new part.now) }
@@ -73,7 +109,7 @@ fn put(
     ensures writes { IfOk result (Writes desk.new) }
     ensures damages { IfOk result (Damages desk.new relation) }
     ensures goes { GoesOn desk.old desk.new }
-    ensures err { OnErr result (place.new ≡ place.old) }
+    ensures err { OnErr result ((place.new ≡ place.old) × (desk.new ≡ desk.old)) }
 {
     match part.stage {
         Stage::Put {
@@ -99,41 +135,18 @@ fn place_after(step: &RowStep, sequence: u32, place: u32) -> u32
     }
 }
 
-/// Finds an empty cell, or what a new data page needs.
-fn find_room(part: &mut InsertPart, desk: &mut Desk, relation: u8, place: u32) -> Option<RowStep>
-    ensures before { IfSome result (IsBefore (shown_by desk.old.cache) relation part.old) }
-    ensures leaves { IfSome result (Leaves desk.new part.new) }
-    ensures searches { is_searching part.old.stage ≡ true → SearchesFirst (shown_by desk.old.cache) relation part.old.at part.new result }
-    ensures misses { IfSome result (Misses desk.new) }
-    ensures writes { IfSome result (Writes desk.new) }
-    ensures damages { IfSome result (InsertDamages desk.new relation part.old) }
-    ensures goes { GoesOn desk.old desk.new }
-{
-    if let Some(step) = find_cell(part, desk, relation, place) {
-        return Some(step);
-    }
-    if let Some(step) = find_empty_slot(part, desk, relation, place) {
-        return Some(step);
-    }
-    if let Some(step) = look_past_slots(part, desk, relation) {
-        return Some(step);
-    }
-    find_free_page(part, desk)
-}
-
-/// The search for an empty cell, where the part stands there.
+/// The search for an empty cell.
 fn find_cell(part: &mut InsertPart, desk: &mut Desk, relation: u8, place: u32) -> Option<RowStep>
-    ensures finds { is_searching part.old.stage ≡ true → FindsCell (shown_by desk.old.cache) relation part.old.at part.old.last part.new result }
+    ensures comes { CellComesTo (shown_by desk.old.cache) relation place part.old part.new result }
+    ensures searches { SearchesFirst (shown_by desk.old.cache) relation part.old.at part.new result }
     ensures before { IfSome result (IsBefore (shown_by desk.old.cache) relation part.old) }
+    ensures same { shown_by desk.new.cache ≡ shown_by desk.old.cache }
     ensures leaves { IfSome result (Leaves desk.new part.new) }
     ensures misses { IfSome result (Misses desk.new) }
     ensures writes { IfSome result (Writes desk.new) }
     ensures damages { IfSome result (InsertDamages desk.new relation part.old) }
     ensures goes { GoesOn desk.old desk.new }
 {
-    if !part.is_searching() {
-        return None;
-    }
     let found = search(part, desk, relation);
     end_search(part, desk, relation, place, found)
 }
@@ -147,8 +160,8 @@ fn end_search(
     place: u32,
     found: Option<Stop>,
 ) -> Option<RowStep>
-    ensures finds { (s : Showing) (from : ℕ) → ArePassed s relation from part.old.at → SearchStops s relation part.old.at found
-        → FindsCell s relation from part.old.last part.new result }
+    ensures ends { SearchEnds place part.old part.new found result }
+    ensures same { shown_by desk.new.cache ≡ shown_by desk.old.cache }
     ensures leaves { IfSome result (Leaves desk.new part.new) }
     ensures misses { IfSome found (StopMisses desk.old) → IfSome result (Misses desk.new) }
     ensures writes { IfSome result (Writes desk.new) }
@@ -175,8 +188,8 @@ fn end_at(
     place: u32,
     stop: Stop,
 ) -> Option<RowStep>
-    ensures finds { (s : Showing) (from : ℕ) → ArePassed s relation from part.old.at → SearchStops s relation part.old.at (Some stop)
-        → FindsCell s relation from part.old.last part.new result }
+    ensures ends { StopEnds place part.old part.new stop result }
+    ensures same { shown_by desk.new.cache ≡ shown_by desk.old.cache }
     ensures leaves { IfSome result (Leaves desk.new part.new) }
     ensures misses { StopMisses desk.old stop → IfSome result (Misses desk.new) }
     ensures writes { IfSome result (Writes desk.new) }
@@ -201,6 +214,8 @@ fn end_at(
 /// The search goes back, and begins anew.
 fn search_anew(part: &mut InsertPart, desk: &mut Desk, place: u32) -> RowStep
     ensures again { result ≡ steps.Again }
+    ensures after { part.new ≡ went_back place part.old }
+    ensures same { shown_by desk.new.cache ≡ shown_by desk.old.cache }
     ensures leaves { Leaves desk.new part.new result }
     ensures misses { Misses desk.new result }
     ensures writes { Writes desk.new result }
@@ -209,145 +224,4 @@ fn search_anew(part: &mut InsertPart, desk: &mut Desk, place: u32) -> RowStep
     part.go_back(place);
     leave_all(desk);
     RowStep::Again
-}
-
-/// The search for an empty slot, where the part stands there.
-fn find_empty_slot(
-    part: &mut InsertPart,
-    desk: &mut Desk,
-    relation: u8,
-    place: u32,
-) -> Option<RowStep>
-    ensures between { IfSome result IsBetween }
-    ensures leaves { IfSome result (Leaves desk.new part.new) }
-    ensures misses { IfSome result (Misses desk.new) }
-    ensures writes { IfSome result (Writes desk.new) }
-    ensures damages { IfSome result (Damages desk.new relation) }
-    ensures goes { GoesOn desk.old desk.new }
-{
-    match part.stage {
-        Stage::Slots { pointer } => find_slot(part, desk, relation, place, pointer),
-        _ => None,
-    }
-}
-
-/// The look at the header, where the part stands there.
-fn look_past_slots(part: &mut InsertPart, desk: &mut Desk, relation: u8) -> Option<RowStep>
-    ensures between { IfSome result IsBetween }
-    ensures leaves { IfSome result (Leaves desk.new part.new) }
-    ensures misses { IfSome result (Misses desk.new) }
-    ensures writes { IfSome result (Writes desk.new) }
-    ensures damages { IfSome result (Damages desk.new relation) }
-    ensures goes { GoesOn desk.old desk.new }
-{
-    match part.stage {
-        Stage::Header { known } => Some(look_for_pointers(part, desk, relation, known)),
-        _ => None,
-    }
-}
-
-/// The search for a free page, where the part stands there.
-fn find_free_page(part: &mut InsertPart, desk: &mut Desk) -> Option<RowStep>
-    ensures between { IfSome result IsBetween }
-    ensures leaves { IfSome result (Leaves desk.new part.new) }
-    ensures misses { IfSome result (Misses desk.new) }
-    ensures writes { IfSome result (Writes desk.new) }
-    ensures damages { (relation : ℕ) → IfSome result (Damages desk.new relation) }
-    ensures goes { GoesOn desk.old desk.new }
-{
-    if let Some(step) = look_for_page(part, desk) {
-        return Some(step);
-    }
-    match part.stage {
-        Stage::Get { new } => get_page(part, desk, new),
-        _ => None,
-    }
-}
-
-/// The look at page inventories, where the part stands there.
-fn look_for_page(part: &mut InsertPart, desk: &mut Desk) -> Option<RowStep>
-    ensures between { IfSome result IsBetween }
-    ensures leaves { IfSome result (Leaves desk.new part.new) }
-    ensures misses { IfSome result (Misses desk.new) }
-    ensures writes { IfSome result (Writes desk.new) }
-    ensures damages { (relation : ℕ) → IfSome result (Damages desk.new relation) }
-    ensures goes { GoesOn desk.old desk.new }
-{
-    match part.stage {
-        Stage::Find { sequence, search } => find_page(part, desk, sequence, search),
-        _ => None,
-    }
-}
-
-/// A data page is made, where the part stands there.
-fn make_page(
-    part: &mut InsertPart,
-    desk: &mut Desk,
-    relation: u8,
-) -> Result<Option<RowStep>, AllocError>
-    ensures between { IfOk result (λ done. IfSome done IsBetween) }
-    ensures leaves { IfOk result (λ done. IfSome done (Leaves desk.new part.new)) }
-    ensures misses { IfOk result (λ done. IfSome done (Misses desk.new)) }
-    ensures writes { IfOk result (λ done. IfSome done (Writes desk.new)) }
-    ensures damages { IfOk result (λ done. IfSome done (Damages desk.new relation)) }
-    ensures goes { GoesOn desk.old desk.new }
-{
-    if let Some(step) = use_pages(part, desk, relation) {
-        return Ok(Some(step));
-    }
-    if let Some(step) = take(part, desk, relation)? {
-        return Ok(Some(step));
-    }
-    match part.stage {
-        Stage::Name { new } => name_page(part, desk, relation, new),
-        _ => Ok(None),
-    }
-}
-
-/// The pages that a new data page needs are used, where the part stands there.
-fn use_pages(part: &mut InsertPart, desk: &mut Desk, relation: u8) -> Option<RowStep>
-    ensures between { IfSome result IsBetween }
-    ensures leaves { IfSome result (Leaves desk.new part.new) }
-    ensures misses { IfSome result (Misses desk.new) }
-    ensures writes { IfSome result (Writes desk.new) }
-    ensures damages { IfSome result (Damages desk.new relation) }
-    ensures goes { GoesOn desk.old desk.new }
-{
-    if let Some(step) = use_slot(part, desk, relation) {
-        return Some(step);
-    }
-    match part.stage {
-        Stage::Free { new } => use_page(part, desk, new),
-        _ => None,
-    }
-}
-
-/// The pointer page with the empty slot is used, where the part stands there.
-fn use_slot(part: &mut InsertPart, desk: &mut Desk, relation: u8) -> Option<RowStep>
-    ensures between { IfSome result IsBetween }
-    ensures leaves { IfSome result (Leaves desk.new part.new) }
-    ensures misses { IfSome result (Misses desk.new) }
-    ensures writes { IfSome result (Writes desk.new) }
-    ensures damages { IfSome result (Damages desk.new relation) }
-    ensures goes { GoesOn desk.old desk.new }
-{
-    match part.stage {
-        Stage::Pointer { new } => use_pointer(part, desk, relation, new),
-        _ => None,
-    }
-}
-
-/// The free page becomes a data page, where the part stands there.
-fn take(part: &mut InsertPart, desk: &mut Desk, relation: u8) -> Result<Option<RowStep>, AllocError>
-    ensures between { IfOk result (λ done. IfSome done IsBetween) }
-    ensures leaves { IfOk result (λ done. IfSome done (Leaves desk.new part.new)) }
-    ensures misses { IfOk result (λ done. IfSome done (Misses desk.new)) }
-    ensures writes { IfOk result (λ done. IfSome done (Writes desk.new)) }
-    ensures damages { IfOk result (λ done. IfSome done (Damages desk.new relation)) }
-    ensures goes { GoesOn desk.old desk.new }
-{
-    match part.stage {
-        Stage::Take { new, taking } => take_page(part, desk, relation, new, taking),
-        _ => Ok(None),
-    }
 }

@@ -7,7 +7,19 @@
 //!
 //! Contracts go by what the cache shows (`Showing`, of `fbc_chains`) and by the desk.
 //!
-//! - **Proved**, of `try_insert` (`specs/Inserting`):
+//! - **Proved**, of `try_insert`:
+//!   - It goes on from its old stage to later ones, and at one of them it comes to its answer, as `specs/Stages` says of each
+//!     (`way`). Up to the taking of a free page all copies at hand stay as they are. Then come these edits, each once and in
+//!     this order: the page is taken from its page inventory; it is formatted, and that page inventory is written before it,
+//!     and the header too where the file does not count that yet; it is named on its pointer page, and is written before
+//!     that; and the row is put, and the header is written before its page.
+//!   - Again comes only where the page that the part remembers is named no more; where the header names more pointer pages
+//!     than were looked at; where the last pass begins, since a relation may have no more pages or no page is free; and where
+//!     the empty slot names a page by now, or the free page is taken.
+//!   - Unbuilt comes exactly where the header is at hand and a further pointer page is due, or a further page inventory.
+//!   - Refused comes exactly where the edit that is due may not be made, or the row is none of the relation's data page of its
+//!     sequence, or is past all numbers.
+//!   - Where there is no memory, the edits that were due before are made, and the part stands at the next one (`stops`).
 //!   - A row is put by one edit that the desk made: the version has the number and the value, its cell stands on a data page,
 //!     and the row's number is counted by the page's sequence and the cell. That sequence is the place from then on; the
 //!     place moves with a row alone (`comes`).
@@ -26,7 +38,7 @@
 //!   - What is done between two steps is a run of the desk's calls (`goes`), and it ends.
 //!   - `refuse` passes over a free page exactly where it was refused twice running, and there is a place for it.
 //! - **Supposed**: nothing. What an edit needs is tested by the desk.
-//! - **Argued**: that no edit is refused, and that a call comes to no other end than is said here where it might go on.
+//! - **Argued**: that no edit is refused, and that what is asked is legal, are matters of laws that are not there yet.
 //! - `fbc_attachment` inserts rows by it.
 #![tactic(auto)]
 

@@ -2,8 +2,14 @@
 #![tactic(auto, using(fbc_desk::proofs::Goes::goes_on))]
 
 ghost use Rattle.std.specs.Prelude.{◌≡◌, ℕ, IfOk, IfSome, OnErr};
+ghost use Rattle.fbc_space.specs.FreeSteps.{HoldsFree};
+ghost use Rattle.fbc_chains.specs.Showing.{shown_by};
+ghost use Rattle.fbc_rows.specs.declared.parts.RowStep.TheVariants as steps;
+ghost use Rattle.fbc_rows.specs.declared.parts.Stage.TheVariants as stages;
+ghost use Rattle.fbc_rows.specs.Gathered.{FreeComesTo, PointerComesTo, SlotComesTo};
+ghost use Rattle.fbc_rows.specs.Parts.{standing};
 ghost use Rattle.fbc_rows.specs.Damages.{Damages, FreeDamages};
-ghost use Rattle.fbc_rows.specs.Making.{NameComesTo};
+ghost use Rattle.fbc_rows.specs.Making.{NameComesTo, NamesPage, TakeComesTo, TakeWants};
 ghost use Rattle.fbc_rows.specs.Missing.{FreeMisses, Misses};
 ghost use Rattle.fbc_rows.specs.Inserting.{IsBetween, Leaves};
 ghost use Rattle.fbc_cache.specs.Giving.{IsWriteFor};
@@ -28,6 +34,8 @@ pub(crate) fn use_pointer(
     relation: u8,
     new: NewPage,
 ) -> Option<RowStep>
+    ensures comes { PointerComesTo desk.old relation new part.old part.new result }
+    ensures same { shown_by desk.new.cache ≡ shown_by desk.old.cache }
     ensures between { IfSome result IsBetween }
     ensures leaves { IfSome result (Leaves desk.new part.new) }
     ensures misses { IfSome result (Misses desk.new) }
@@ -50,6 +58,8 @@ fn go_on_if_empty(
     relation: u8,
     new: NewPage,
 ) -> Option<RowStep>
+    ensures comes { SlotComesTo (shown_by desk.old.cache) relation new part.old part.new result }
+    ensures same { shown_by desk.new.cache ≡ shown_by desk.old.cache }
     ensures between { IfSome result IsBetween }
     ensures leaves { IfSome result (Leaves desk.new part.new) }
     ensures misses { IfSome result (Misses desk.new) }
@@ -66,6 +76,9 @@ fn go_on_if_empty(
 
 /// Everything is unpinned, and the part begins again.
 fn begin_again(part: &mut InsertPart, desk: &mut Desk) -> RowStep
+    ensures again { result ≡ steps.Again }
+    ensures after { part.new ≡ standing stages.Slot part.old }
+    ensures same { shown_by desk.new.cache ≡ shown_by desk.old.cache }
     ensures between { IsBetween result }
     ensures leaves { Leaves desk.new part.new result }
     ensures misses { Misses desk.new result }
@@ -80,6 +93,8 @@ fn begin_again(part: &mut InsertPart, desk: &mut Desk) -> RowStep
 
 /// Uses the free page, with the page inventory over it. Where it is not free by now, the part begins again.
 pub(crate) fn use_page(part: &mut InsertPart, desk: &mut Desk, new: NewPage) -> Option<RowStep>
+    ensures comes { FreeComesTo desk.old new part.old part.new result }
+    ensures same { shown_by desk.new.cache ≡ shown_by desk.old.cache }
     ensures between { IfSome result IsBetween }
     ensures leaves { IfSome result (Leaves desk.new part.new) }
     ensures misses { IfSome result (Misses desk.new) }
@@ -103,6 +118,8 @@ pub(crate) fn use_page(part: &mut InsertPart, desk: &mut Desk, new: NewPage) -> 
 
 /// Uses the free page, with the page inventory over it.
 fn hold_page(desk: &mut Desk, page: u32) -> FreeStep
+    ensures held { HoldsFree desk.old page result desk.new }
+    ensures same { shown_by desk.new.cache ≡ shown_by desk.old.cache }
     ensures misses { FreeMisses desk.new result }
     ensures damages { (relation : ℕ) → FreeDamages desk.new relation result }
     ensures goes { GoesOn desk.old desk.new }
@@ -118,12 +135,14 @@ pub(crate) fn take_page(
     new: NewPage,
     from: Taking,
 ) -> Result<Option<RowStep>, AllocError>
+    ensures comes { IfOk result (TakeComesTo desk.old desk.new relation new from part.old part.new) }
     ensures between { IfOk result (λ done. IfSome done IsBetween) }
     ensures leaves { IfOk result (λ done. IfSome done (Leaves desk.new part.new)) }
     ensures misses { IfOk result (λ done. IfSome done (Misses desk.new)) }
     ensures writes { IfOk result (λ done. IfSome done (Writes desk.new)) }
     ensures damages { IfOk result (λ done. IfSome done (Damages desk.new relation)) }
     ensures goes { GoesOn desk.old desk.new }
+    ensures err { OnErr result (TakeWants desk.old desk.new relation new from part.old part.new) }
 {
     let mut taking = from;
     let taken = try_take(&mut taking, desk, new.page, relation, new.sequence);
@@ -145,12 +164,14 @@ pub(crate) fn name_page(
     relation: u8,
     new: NewPage,
 ) -> Result<Option<RowStep>, AllocError>
+    ensures comes { IfOk result (NamesPage desk.old desk.new relation new part.old part.new) }
     ensures between { IfOk result (λ done. IfSome done IsBetween) }
     ensures leaves { IfOk result (λ done. IfSome done (Leaves desk.new part.new)) }
     ensures misses { IfOk result (λ done. IfSome done (Misses desk.new)) }
     ensures writes { IfOk result (λ done. IfSome done (Writes desk.new)) }
     ensures damages { IfOk result (λ done. IfSome done (Damages desk.new relation)) }
     ensures goes { GoesOn desk.old desk.new }
+    ensures err { OnErr result ((desk.new ≡ desk.old) × (part.new ≡ part.old)) }
 {
     match name(desk, relation, new)? {
         Made::Done => {

@@ -113,6 +113,7 @@ pub(crate) fn look_at_pointer(desk: &mut Desk, relation: u8, pointer: u32) -> He
 pub(crate) fn hold_pointer(desk: &mut Desk, relation: u8, pointer: u32) -> Held
     ensures held { HoldsAs desk.old (to_change (pointer_at (shown_by desk.old.cache) relation pointer) true) (pointer_place relation pointer) result }
     ensures after { desk.new ≡ after_hold desk.old (to_change (pointer_at (shown_by desk.old.cache) relation pointer) true) result }
+    ensures same { shown_by desk.new.cache ≡ shown_by desk.old.cache }
     ensures misses { HeldMisses desk.new result }
     ensures damages { HeldDamages desk.new relation result }
     ensures goes { GoesOn desk.old desk.new }
@@ -137,6 +138,7 @@ pub(crate) fn hold_data(desk: &mut Desk, page: u32) -> Held
 /// No page is in use any more.
 pub(crate) fn leave_all(desk: &mut Desk)
     ensures unused { IsUnused desk.new }
+    ensures same { shown_by desk.new.cache ≡ shown_by desk.old.cache }
     ensures goes { GoesOn desk.old desk.new }
 {
     desk.unpin_all();

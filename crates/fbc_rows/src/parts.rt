@@ -2,7 +2,7 @@
 
 ghost use Rattle.std.specs.Prelude.{◌≡◌, [], Some, None};
 ghost use Rattle.fbc_rows.specs.declared.parts.Stage.TheVariants as stages;
-ghost use Rattle.fbc_rows.specs.Parts.{after_refusal, in_last, is_refused, is_searching, may_pass, passes_over, went_back};
+ghost use Rattle.fbc_rows.specs.Parts.{after_refusal, in_last, is_refused, is_to_put, may_pass, passes_over, went_back};
 
 use fbc_cache::Need;
 use fbc_kinds::Rule;
@@ -142,13 +142,17 @@ impl InsertPart {
         !self.passed.contains(page) && self.passed.len() < MOST_PASSED
     }
 
-    /// Whether the part stands in the search for an empty cell.
-    pub(crate) fn is_searching(&self) -> bool
-        ensures { result ≡ is_searching self.now.stage }
+    /// Whether the part stands where the row is put.
+    pub(crate) fn is_to_put(&self) -> bool
+        ensures { result ≡ is_to_put self.now.stage }
     {
         matches!(
             self.stage,
-            Stage::Slot | Stage::Page { page: _ } | Stage::Named { page: _, broken: _ }
+            Stage::Put {
+                page: _,
+                sequence: _,
+                cell: _
+            }
         )
     }
 

@@ -8,8 +8,9 @@ ghost use Rattle.fbc_desk.specs.Roles.{misplaced};
 ghost use Rattle.fbc_chains.specs.Showing.{shown_by};
 ghost use Rattle.fbc_kinds.specs.declared.rules.Rule.{Rule as ARule};
 ghost use Rattle.fbc_rows.specs.Damages.{NamedDamages, SearchDamages, StopDamages};
+ghost use Rattle.fbc_rows.specs.Making.{naming, noted};
 ghost use Rattle.fbc_rows.specs.Missing.{StopMisses};
-ghost use Rattle.fbc_rows.specs.Searching.{ArePassed, IsNamedHere, LooksOver, SearchStops, sequences};
+ghost use Rattle.fbc_rows.specs.Searching.{ArePassed, IfGone, IsGone, IsNamedHere, LooksOver, NamesOther, SearchStops, sequences};
 ghost use Rattle.fbc_rows.specs.Slots.{Names};
 
 use crate::needs::{hold_data, pointer_at};
@@ -39,6 +40,7 @@ pub(crate) fn search(part: &mut InsertPart, desk: &mut Desk, relation: u8) -> Op
     ensures passes { ArePassed (shown_by desk.old.cache) relation part.old.at part.new.at }
     ensures stops { SearchStops (shown_by desk.old.cache) relation part.new.at result }
     ensures rest { part.new ≡ record part.old { at = part.new.at; stage = part.new.stage } }
+    ensures gone { IfSome result (IfGone (IsGone (shown_by desk.old.cache) relation part.old)) }
     ensures same { shown_by desk.new.cache ≡ shown_by desk.old.cache }
     ensures misses { IfSome result (StopMisses desk.new) }
     ensures damages { IfSome result (SearchDamages desk.new relation part.old) }
@@ -67,6 +69,7 @@ fn sequences(desk: &Desk, relation: u8) -> u32
 fn look(part: &mut InsertPart, desk: &mut Desk, relation: u8) -> Option<Stop>
     ensures passes { LooksOver (shown_by desk.old.cache) relation part.old.at result }
     ensures rest { part.new ≡ record part.old { stage = part.new.stage } }
+    ensures gone { IfSome result (IfGone (IsGone (shown_by desk.old.cache) relation part.old)) }
     ensures same { shown_by desk.new.cache ≡ shown_by desk.old.cache }
     ensures misses { IfSome result (StopMisses desk.new) }
     ensures damages { IfSome result (SearchDamages desk.new relation part.old) }
@@ -83,6 +86,7 @@ fn look(part: &mut InsertPart, desk: &mut Desk, relation: u8) -> Option<Stop>
 fn look_from_slot(part: &mut InsertPart, desk: &mut Desk, relation: u8) -> Option<Stop>
     ensures passes { LooksOver (shown_by desk.old.cache) relation part.old.at result }
     ensures rest { part.new ≡ record part.old { stage = part.new.stage } }
+    ensures gone { IfSome result (IfGone ⊥) }
     ensures same { shown_by desk.new.cache ≡ shown_by desk.old.cache }
     ensures misses { IfSome result (StopMisses desk.new) }
     ensures damages { IfSome result (StopDamages desk.new relation) }
@@ -103,6 +107,7 @@ fn look_from_slot(part: &mut InsertPart, desk: &mut Desk, relation: u8) -> Optio
 fn look_at_page(part: &mut InsertPart, desk: &mut Desk, relation: u8, page: u32) -> Option<Stop>
     ensures passes { LooksOver (shown_by desk.old.cache) relation part.old.at result }
     ensures rest { part.new ≡ record part.old { stage = part.new.stage } }
+    ensures gone { IfSome result (IfGone (NamesOther (shown_by desk.old.cache) relation part.old.at page)) }
     ensures same { shown_by desk.new.cache ≡ shown_by desk.old.cache }
     ensures misses { IfSome result (StopMisses desk.new) }
     ensures damages { IfSome result (StopDamages desk.new relation) }
@@ -161,6 +166,7 @@ fn look_at_name(
     broken: Option<Rule>,
 ) -> Option<Stop>
     ensures passes { LooksOver (shown_by desk.old.cache) relation sequence result }
+    ensures gone { IfSome result (IfGone (NamesOther (shown_by desk.old.cache) relation sequence page)) }
     ensures same { shown_by desk.new.cache ≡ shown_by desk.old.cache }
     ensures misses { IfSome result (StopMisses desk.new) }
     ensures damages { IfSome result (NamedDamages desk.new relation sequence page broken) }
@@ -189,6 +195,7 @@ fn look_at_named(
 ) -> Option<Stop>
     requires names { Names (shown_by desk.old.cache) relation sequence page }
     ensures passes { LooksOver (shown_by desk.old.cache) relation sequence result }
+    ensures gone { IfSome result (IfGone ⊥) }
     ensures same { shown_by desk.new.cache ≡ shown_by desk.old.cache }
     ensures misses { IfSome result (StopMisses desk.new) }
     ensures damages { IfSome result (NamedDamages desk.new relation sequence page broken) }
@@ -207,6 +214,7 @@ fn look_at_named(
 fn look_for_cell(desk: &mut Desk, relation: u8, sequence: u32, page: u32) -> Option<Stop>
     requires named { IsNamedHere (shown_by desk.old.cache) relation sequence page }
     ensures passes { LooksOver (shown_by desk.old.cache) relation sequence result }
+    ensures gone { IfSome result (IfGone ⊥) }
     ensures same { shown_by desk.new.cache ≡ shown_by desk.old.cache }
     ensures misses { IfSome result (StopMisses desk.new) }
     ensures damages { (kept : Option ARule) → IfSome result (NamedDamages desk.new relation sequence page kept) }
@@ -226,6 +234,7 @@ fn look_for_cell(desk: &mut Desk, relation: u8, sequence: u32, page: u32) -> Opt
 
 /// Notes that the slot of the sequence names the page, where the pages at hand show it.
 pub(crate) fn note_named(desk: &mut Desk, relation: u8, sequence: u32, page: u32)
+    ensures after { desk.new ≡ noted (naming desk.old relation sequence page) desk.old }
     ensures same { desk.new.cache ≡ desk.old.cache }
     ensures goes { GoesOn desk.old desk.new }
 {

@@ -1,6 +1,5 @@
 -- The row is put, and the place moves; or nothing moves.
-use Rattle.std.proofs.Common.{ℕ, refl, sym, subst}
-use Rattle.fbc_desk.specs.Calls.{stays}
+use Rattle.std.proofs.Common.{ℕ, sym, subst}
 use Rattle.fbc_rows.specs.Inserting.{InsertComesTo}
 use Rattle.fbc_rows.proofs.Steps.{puts-come, puts-leave}
 use Rattle.fbc_rows.proofs.Written.{put-writes}
@@ -10,9 +9,6 @@ pub returns-in_ok-step-in-Put-clause-comes : goal.returns-in_ok-step-in-Put-clau
 returns-in_ok-step-in-Put-clause-comes c =
     subst (λ (place : ℕ). InsertComesTo c.args.desk.now c.args.relation c.args.number c.args.value c.args.place.now place c.put_row.new.desk c.in_ok-step-in-Put.step) (sym c.place_after.ensures)
     (puts-come c.args.desk.now c.args.relation c.args.number c.args.value c.in-Put.page c.in-Put.sequence c.in-Put.cell c.args.place.now c.put_row.new.desk c.in_ok-step-in-Put.step c.in_ok-step-in-Put.ensures.puts)
-
-pub returns-in_default : goal.returns-in_default
-returns-in_default c = record { comes = refl; ends = tt; leaves = tt; misses = tt; writes = tt; damages = tt; goes = stays c.args.desk.now; err = tt }
 
 pub returns-in_ok-step-in-Put-clause-leaves : goal.returns-in_ok-step-in-Put-clause-leaves
 returns-in_ok-step-in-Put-clause-leaves c =

@@ -8,6 +8,7 @@ use Rattle.fbc_rows.specs.declared.parts.Stage.TheVariants as stages
 use Rattle.fbc_rows.specs.Searching.{ArePassed, IsPassed, LooksOver, SearchStops}
 use Rattle.fbc_rows.proofs.Remembered.{damages-first}
 use Rattle.fbc_rows.proofs.Ways.{none-yet, one-more, rests, stops-there}
+use Rattle.fbc_rows.proofs.Gone.{gone-first}
 use Rattle.fbc_rows.proofs.searching.search.Goals as goal
 
 pub loop-part-init : goal.loop-part-init
@@ -47,3 +48,7 @@ returns-in-Some-clause-goes c = goes_on _ _ _ c.loop-part.invariant.2 c.look.ens
 pub returns-in-Some-clause-damages : goal.returns-in-Some-clause-damages
 returns-in-Some-clause-damages c =
     damages-first c.look.new.desk c.args.relation c.args.part.now c.loop-part.part c.in-Some.stop c.loop-part.invariant.4 c.in-Some.ensures.damages
+
+pub returns-in-Some-clause-gone : goal.returns-in-Some-clause-gone
+returns-in-Some-clause-gone c =
+    gone-first (shown_by c.args.desk.now.cache) (shown_by c.loop-part.desk.cache) c.args.relation c.args.part.now c.loop-part.part c.in-Some.stop c.loop-part.invariant.1 c.loop-part.invariant.4 c.in-Some.ensures.gone
